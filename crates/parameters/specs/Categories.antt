@@ -19,3 +19,38 @@ category1 =
       first = 196;
       second = 400;
     }
+
+-- categories 3 and 5, with SHAKE256's rate
+abbrev pub category3 : Params
+category3 =
+    record {
+      n = 187;
+      k = 111;
+      t = 245;
+      w = 127;
+      digest = 48;
+      seed = 24;
+      rate = 136;
+      matrix = 7616;
+      exponents = 144;
+      mask = 210;
+      first = 280;
+      second = 600;
+    }
+
+abbrev pub category5 : Params
+category5 =
+    record {
+      n = 251;
+      k = 150;
+      t = 327;
+      w = 169;
+      digest = 64;
+      seed = 32;
+      rate = 136;
+      matrix = 13664;
+      exponents = 192;
+      mask = 280;
+      first = 350;
+      second = 800;
+    }

@@ -1,0 +1,1 @@
+// Values modulo 127 and exponents modulo 7.

@@ -1,0 +1,1 @@
+// Vectors of values and exponents, and the syndrome.
