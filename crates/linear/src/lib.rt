@@ -1,1 +1,100 @@
-// Vectors of values and exponents, and the syndrome.
+// Vectors place by place, and the syndrome. A vector is a slice of bytes; each place goes through field's functions.
+use field::Exponent;
+use field::Value;
+ghost use mathlib.Core.Path.{_≡_};
+ghost use Prim.Native.Nat.{_+_, _-_, _*_, _%_, _<_, _≤_};
+ghost use lib.Dec.{T};
+ghost use lib.ListN.{length};
+ghost use Rattle.packing.specs.Packing.{allBelow};
+ghost use Rattle.linear.specs.Linear.{powers as powersOf, scaled, response, transformation, lessTimes, dot, syndrome as syndromeOf};
+
+// The powers of exponents.
+pub fn powers(es: &[u8], out: &mut [u8])
+    requires { ⌜ (length (now out) ≡ length (now es)) × T (allBelow 7 (now es)) ⌝ }
+    ensures { λ r. ⌜ now (out .exit) ≡ powersOf (now (es .entry)) ⌝ }
+{
+    let mut i = 0;
+    while i < es.len() {
+        out[i] = field::raise(Exponent(es[i])).0;
+        i += 1;
+    }
+}
+
+// 2^a times x.
+pub fn scale(a: &[u8], x: &[u8], out: &mut [u8])
+    requires { ⌜ (length (now out) ≡ length (now a)) × (length (now x) ≡ length (now a)) × T (allBelow 7 (now a)) × T (allBelow 127 (now x)) ⌝ }
+    ensures { λ r. ⌜ now (out .exit) ≡ scaled (now (a .entry)) (now (x .entry)) ⌝ }
+{
+    let mut i = 0;
+    while i < a.len() {
+        out[i] = field::times_power(Exponent(a[i]), Value(x[i])).0;
+        i += 1;
+    }
+}
+
+// u + b · 2^e.
+pub fn respond(b: Value, u: &[u8], e: &[u8], out: &mut [u8])
+    requires { ⌜ (b .0 < 127) × (length (now out) ≡ length (now u)) × (length (now e) ≡ length (now u)) × T (allBelow 127 (now u)) × T (allBelow 7 (now e)) ⌝ }
+    ensures { λ r. ⌜ now (out .exit) ≡ response (b .0) (now (u .entry)) (now (e .entry)) ⌝ }
+{
+    let mut i = 0;
+    while i < u.len() {
+        out[i] = field::respond(b, Value(u[i]), Exponent(e[i])).0;
+        i += 1;
+    }
+}
+
+// The key exponents minus the mask exponents.
+pub fn transform(a: &[u8], e: &[u8], out: &mut [u8])
+    requires { ⌜ (length (now out) ≡ length (now a)) × (length (now e) ≡ length (now a)) × T (allBelow 7 (now a)) × T (allBelow 7 (now e)) ⌝ }
+    ensures { λ r. ⌜ now (out .exit) ≡ transformation (now (a .entry)) (now (e .entry)) ⌝ }
+{
+    let mut i = 0;
+    while i < a.len() {
+        out[i] = field::minus(Exponent(a[i]), Exponent(e[i])).0;
+        i += 1;
+    }
+}
+
+// x − b · s.
+pub fn subtract(b: Value, x: &[u8], s: &[u8], out: &mut [u8])
+    requires { ⌜ (b .0 < 127) × (length (now out) ≡ length (now x)) × (length (now s) ≡ length (now x)) × T (allBelow 127 (now x)) × T (allBelow 127 (now s)) ⌝ }
+    ensures { λ r. ⌜ now (out .exit) ≡ lessTimes (b .0) (now (x .entry)) (now (s .entry)) ⌝ }
+{
+    let mut i = 0;
+    while i < x.len() {
+        out[i] = field::less(b, Value(x[i]), Value(s[i])).0;
+        i += 1;
+    }
+}
+
+// A row of V times the first places of a vector, up to a multiple of 127.
+pub fn row_sum(row: &[u8], x: &[u8]) -> u32
+    requires { ⌜ (length (now row) ≡ length (now x)) × (length (now x) ≤ 4096) × T (allBelow 127 (now row)) × T (allBelow 127 (now x)) ⌝ }
+    ensures { λ r. ⌜ (r % 127 ≡ dot (now (row .entry)) (now (x .entry)) % 127) × (r ≤ 4096 * 15876) ⌝ }
+{
+    let mut sum = 0u32;
+    let mut i = 0;
+    while i < x.len() {
+        sum += (row[i] as u32) * (x[i] as u32);
+        i += 1;
+    }
+    sum
+}
+
+// x times H transposed.
+pub fn syndrome(k: usize, vs: &[u8], x: &[u8], out: &mut [u8])
+    requires { ⌜ (length (now x) ≡ k + length (now out)) × (length (now vs) ≡ k * length (now out)) × (length (now x) ≤ 4096) × T (allBelow 127 (now vs)) × T (allBelow 127 (now x)) ⌝ }
+    ensures { λ r. ⌜ now (out .exit) ≡ syndromeOf k (now (vs .entry)) (now (x .entry)) ⌝ }
+{
+    let covered = &x[..k];
+    let mut i = 0;
+    let mut at = 0;
+    while i < out.len() {
+        let end = at + k;
+        let sum = row_sum(&vs[at..end], covered);
+        out[i] = field::reduce(sum + x[k + i] as u32).0;
+        at = end;
+        i += 1;
+    }
+}

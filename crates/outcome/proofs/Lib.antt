@@ -1,1 +1,5 @@
 pub mod Checks
+pub mod Computed
+pub mod Filled
+pub mod Lists
+pub mod Numbers

@@ -1,1 +1,264 @@
-// Packing.
+// Packing: fields of a fixed width laid into bytes, from the lowest bit of the first byte upward.
+//
+// It is a change of base: eight fields of w bits are the same number as w bytes. So packing and unpacking are one
+// code: `regroup` reads each whole group as a number and writes that number in the other base, and `finish` does
+// the same with what is left over. The functions with constant widths call small generic ones, which then inline.
+ghost use mathlib.Core.Path.{_≡_};
+ghost use mathlib.Core.Bool.{true, false};
+ghost use mathlib.Core.List.{_++_};
+ghost use Prim.Native.Nat.{ℕ, _+_, _-_, _*_, _/_, _^_, _<_, _≤_, max};
+ghost use lib.Dec.{ltb};
+ghost use lib.ListN.{length, take, drop};
+ghost use Rattle.outcome.specs.Answer.{firstRefusal, Answers, pick};
+ghost use Rattle.packing.specs.Packing.{
+  number,
+  digits,
+  size,
+  pack,
+  unpack,
+  allBelow,
+  packChecks,
+  unpackChecks,
+};
+
+fn wide(x: u8) -> u64
+    ensures { λ r. ⌜ r ≡ x ⌝ }
+{
+    x as u64
+}
+
+fn pow2(k: usize) -> u64
+    requires { ⌜ k < 64 ⌝ }
+    ensures { λ r. ⌜ r ≡ 2 ^ k ⌝ }
+{
+    1 << k
+}
+
+fn larger(a: u8, b: u8) -> u8
+    ensures { λ r. ⌜ r ≡ max a b ⌝ }
+{
+    if a < b { b } else { a }
+}
+
+// How many bytes n fields of width w take, whole groups first: so no length overflows.
+pub fn packed_size(n: usize, w: usize) -> usize
+    requires { ⌜ w ≤ 8 ⌝ }
+    ensures { λ r. ⌜ r ≡ size w n ⌝ }
+{
+    n / 8 * w + (n % 8 * w + 7) / 8
+}
+
+// The number of the n fields of width a from `at` on, the first field lowest.
+pub fn gather(src: &[u8], at: usize, a: usize, n: usize) -> u64
+    requires { ⌜ (at + n ≤ length (now src)) × (a ≤ 8) × (a * n ≤ 64) × (allBelow (2 ^ a) (now src) ≡ true) ⌝ }
+    ensures { λ r. ⌜ r ≡ number a (take n (drop at (now (src .entry)))) ⌝ }
+{
+    let mut v: u64 = 0;
+    let mut k = n;
+    while 0 < k {
+        k -= 1;
+        v = (v << a) + wide(src[at + k]);
+    }
+    v
+}
+
+// Writes the lowest n digits of v in base 2 ^ b from `at` on.
+pub fn scatter(v: u64, dst: &mut [u8], at: usize, b: usize, n: usize)
+    requires { ⌜ (at + n ≤ length (now dst)) × (b ≤ 8) ⌝ }
+    ensures { λ _.
+        ⌜ now (dst .exit) ≡ take at (now (dst .entry)) ++ digits b n v ++ drop (at + n) (now (dst .entry)) ⌝ }
+{
+    let mut left = v;
+    let mut k = 0;
+    while k < n {
+        dst[at + k] = (left % pow2(b)) as u8;
+        left = left >> b;
+        k += 1;
+    }
+}
+
+// Whole groups: x fields of width a are y fields of width b.
+fn regroup(src: &[u8], dst: &mut [u8], groups: usize, a: usize, x: usize, b: usize, y: usize)
+    requires { ⌜ (groups * x ≤ length (now src)) × (groups * y ≤ length (now dst)) ⌝ }
+    requires { ⌜ (a ≤ 8) × (b ≤ 8) × (a * x ≡ b * y) × (a * x ≤ 64) × (allBelow (2 ^ a) (now src) ≡ true) ⌝ }
+    ensures { λ _. ⌜ take (groups * y) (now (dst .exit)) ≡ digits b (groups * y) (number a (now (src .entry))) ⌝ }
+{
+    let mut g = 0;
+    let mut i = 0;
+    let mut j = 0;
+    while g < groups {
+        let v = gather(src, i, a, x);
+        scatter(v, dst, j, b, y);
+        i += x;
+        j += y;
+        g += 1;
+    }
+}
+
+// The last group, from i on of the one and j on of the other: with it the whole of `dst` is made.
+fn finish(src: &[u8], i: usize, dst: &mut [u8], j: usize, a: usize, b: usize)
+    requires { ⌜ (i ≤ length (now src)) × (j ≤ length (now dst)) × (a * i ≡ b * j) ⌝ }
+    requires { ⌜ (a ≤ 8) × (b ≤ 8) × (a * (length (now src) - i) ≤ 64) × (allBelow (2 ^ a) (now src) ≡ true) ⌝ }
+    requires { ⌜ take j (now dst) ≡ digits b j (number a (now src)) ⌝ }
+    ensures { λ _. ⌜ now (dst .exit) ≡ digits b (length (now (dst .entry))) (number a (now (src .entry))) ⌝ }
+{
+    let v = gather(src, i, a, src.len() - i);
+    let n = dst.len() - j;
+    scatter(v, dst, j, b, n);
+}
+
+// The largest field, or 0 of none.
+fn largest(xs: &[u8]) -> u8
+    ensures { λ r. ⌜ ((m : ℕ) → 0 < m → ltb r m ≡ allBelow m (now (xs .entry))) ⌝ }
+{
+    let mut best = 0;
+    let mut i = 0;
+    while i < xs.len() {
+        best = larger(best, xs[i]);
+        i += 1;
+    }
+    best
+}
+
+// The tests of packing fields below m into some bytes.
+fn pack_refusal(xs: &[u8], bytes: usize, w: usize, m: u8) -> u8
+    requires { ⌜ (w ≤ 8) × (0 < m) ⌝ }
+    ensures { λ r. ⌜ r ≡ firstRefusal (packChecks w m (now (xs .entry)) bytes) ⌝ }
+{
+    if bytes != packed_size(xs.len(), w) {
+        return 1;
+    }
+    if m <= largest(xs) {
+        return 3;
+    }
+    0
+}
+
+// What was seen so far, joined with the lowest n fields of v: below 2 ^ w where no field was 2 ^ w - 1. What is
+// joined is each field's successor, which has bit w just where the field is 2 ^ w - 1.
+fn see(v: u64, w: usize, n: usize, seen: u64) -> u64
+    requires { ⌜ (w ≤ 8) × (seen < 512) ⌝ }
+    ensures { λ r.
+        ⌜ (r < 512) × (ltb r (2 ^ w) ≡ pick (ltb seen (2 ^ w)) (allBelow (2 ^ w - 1) (digits w n v)) false) ⌝ }
+{
+    let mut all = seen;
+    let mut left = v;
+    let mut k = 0;
+    while k < n {
+        all = all | (left % pow2(w) + 1);
+        left = left >> w;
+        k += 1;
+    }
+    all
+}
+
+// The same of the fields of whole groups, of w bytes each.
+fn see_groups(packed: &[u8], groups: usize, w: usize) -> u64
+    requires { ⌜ (groups * w ≤ length (now packed)) × (w ≤ 8) ⌝ }
+    ensures { λ r.
+        ⌜ (r < 512)
+        × (ltb r (2 ^ w) ≡ allBelow (2 ^ w - 1) (digits w (groups * 8) (number 8 (now (packed .entry))))) ⌝ }
+{
+    let mut seen = 0;
+    let mut i = 0;
+    let mut g = 0;
+    while g < groups {
+        seen = see(gather(packed, i, 8, w), w, 8, seen);
+        i += w;
+        g += 1;
+    }
+    seen
+}
+
+// The tests of unpacking n fields below 2 ^ w - 1 from a string of the right size, whose whole groups were seen.
+fn unpack_refusal(packed: &[u8], n: usize, w: usize, seen: u64) -> u8
+    requires { ⌜ (length (now packed) ≡ size w n) × (w ≤ 8) × (seen < 512) ⌝ }
+    requires { ⌜ ltb seen (2 ^ w) ≡ allBelow (2 ^ w - 1) (digits w (n / 8 * 8) (number 8 (now packed))) ⌝ }
+    ensures { λ r. ⌜ r ≡ firstRefusal (unpackChecks w (2 ^ w - 1) n (now (packed .entry))) ⌝ }
+{
+    let at = n / 8 * w;
+    let v = gather(packed, at, 8, packed.len() - at);
+    if pow2(w) <= see(v, w, n % 8, seen) {
+        return 3;
+    }
+    if pow2(n % 8 * w) <= v {
+        return 3;
+    }
+    0
+}
+
+// The entries, for any count of fields: values have 7 bits and are below 127, exponents 3 bits and below 7.
+
+pub fn pack_values(values: &[u8], packed: &mut [u8]) -> u8
+    ensures { λ r.
+        ⌜ Answers (packChecks 7 127 (now (values .entry)) (length (now (packed .entry))))
+        (pack 7 (now (values .entry)))
+        (now (packed .entry)) r (now (packed .exit)) ⌝ }
+{
+    let refusal = pack_refusal(values, packed.len(), 7, 127);
+    if refusal != 0 {
+        return refusal;
+    }
+    let groups = values.len() / 8;
+    regroup(values, packed, groups, 7, 8, 8, 7);
+    finish(values, groups * 8, packed, groups * 7, 7, 8);
+    0
+}
+
+pub fn unpack_values(packed: &[u8], values: &mut [u8]) -> u8
+    ensures { λ r.
+        ⌜ Answers (unpackChecks 7 127 (length (now (values .entry))) (now (packed .entry)))
+        (unpack 7 (length (now (values .entry))) (now (packed .entry)))
+        (now (values .entry)) r (now (values .exit)) ⌝ }
+{
+    let n = values.len();
+    if packed.len() != packed_size(n, 7) {
+        return 1;
+    }
+    let groups = n / 8;
+    let seen = see_groups(packed, groups, 7);
+    let refusal = unpack_refusal(packed, n, 7, seen);
+    if refusal != 0 {
+        return refusal;
+    }
+    regroup(packed, values, groups, 8, 7, 7, 8);
+    finish(packed, groups * 7, values, groups * 8, 8, 7);
+    0
+}
+
+pub fn pack_exponents(exponents: &[u8], packed: &mut [u8]) -> u8
+    ensures { λ r.
+        ⌜ Answers (packChecks 3 7 (now (exponents .entry)) (length (now (packed .entry))))
+        (pack 3 (now (exponents .entry)))
+        (now (packed .entry)) r (now (packed .exit)) ⌝ }
+{
+    let refusal = pack_refusal(exponents, packed.len(), 3, 7);
+    if refusal != 0 {
+        return refusal;
+    }
+    let groups = exponents.len() / 8;
+    regroup(exponents, packed, groups, 3, 8, 8, 3);
+    finish(exponents, groups * 8, packed, groups * 3, 3, 8);
+    0
+}
+
+pub fn unpack_exponents(packed: &[u8], exponents: &mut [u8]) -> u8
+    ensures { λ r.
+        ⌜ Answers (unpackChecks 3 7 (length (now (exponents .entry))) (now (packed .entry)))
+        (unpack 3 (length (now (exponents .entry))) (now (packed .entry)))
+        (now (exponents .entry)) r (now (exponents .exit)) ⌝ }
+{
+    let n = exponents.len();
+    if packed.len() != packed_size(n, 3) {
+        return 1;
+    }
+    let groups = n / 8;
+    let seen = see_groups(packed, groups, 3);
+    let refusal = unpack_refusal(packed, n, 3, seen);
+    if refusal != 0 {
+        return refusal;
+    }
+    regroup(packed, exponents, groups, 8, 3, 3, 8);
+    finish(packed, groups * 3, exponents, groups * 8, 8, 3);
+    0
+}

@@ -1,0 +1,55 @@
+// Category 1: every entry at its fixed sizes, over arrays on the stack that have these sizes (a draw's has room for
+// the rest of its last group).
+ghost use Prim.Native.Nat.{_-_, _*_};
+ghost use Rattle.parameters.specs.Categories.{category1};
+ghost use Rattle.sampling.specs.Entry.{AnswersSample, AnswersShuffle};
+
+// V: 51 rows of 76 values, row by row.
+pub fn sample_matrix(block: &[u8], out: &mut [u8]) -> u8
+    ensures { λ r.
+        ⌜ AnswersSample 7 127 0 ((category1 .n - category1 .k) * category1 .k) (category1 .matrix)
+        (now (block .entry)) (now (out .entry)) r (now (out .exit)) ⌝ }
+{
+    let mut scratch = [0u8; 3884];
+    sampling::entry::sample_into(out, &mut scratch, block, 3500, 7, 127, 0, 3876)
+}
+
+// Exponents: of the key, and e' of a round.
+pub fn sample_exponents(block: &[u8], out: &mut [u8]) -> u8
+    ensures { λ r.
+        ⌜ AnswersSample 3 7 0 (category1 .n) (category1 .exponents)
+        (now (block .entry)) (now (out .entry)) r (now (out .exit)) ⌝ }
+{
+    let mut scratch = [0u8; 135];
+    sampling::entry::sample_into(out, &mut scratch, block, 96, 3, 7, 0, 127)
+}
+
+// The mask values u' of a round.
+pub fn sample_mask_values(block: &[u8], out: &mut [u8]) -> u8
+    ensures { λ r.
+        ⌜ AnswersSample 7 127 0 (category1 .n) (category1 .mask)
+        (now (block .entry)) (now (out .entry)) r (now (out .exit)) ⌝ }
+{
+    let mut scratch = [0u8; 135];
+    sampling::entry::sample_into(out, &mut scratch, block, 140, 7, 127, 0, 127)
+}
+
+// The first challenges β, 1 to 126.
+pub fn sample_first_challenges(block: &[u8], out: &mut [u8]) -> u8
+    ensures { λ r.
+        ⌜ AnswersSample 7 126 1 (category1 .t) (category1 .first)
+        (now (block .entry)) (now (out .entry)) r (now (out .exit)) ⌝ }
+{
+    let mut scratch = [0u8; 171];
+    sampling::entry::sample_into(out, &mut scratch, block, 196, 7, 126, 1, 163)
+}
+
+// The second challenge: 0 or 1 for each round.
+pub fn sample_second_challenge(block: &[u8], out: &mut [u8]) -> u8
+    ensures { λ r.
+        ⌜ AnswersShuffle (category1 .t) (category1 .w) (category1 .second)
+        (now (block .entry)) (now (out .entry)) r (now (out .exit)) ⌝ }
+{
+    let mut scratch = [0u8; 163];
+    sampling::entry::shuffle_into(out, &mut scratch, block, 400, 85)
+}

@@ -1,0 +1,163 @@
+// Seeds expanded: strings are hashed into a block, and the block is sampled into lent scratch that has eight places
+// to spare.
+use parameters::Params;
+ghost use mathlib.Core.Path.{_≡_};
+ghost use Prim.Native.Nat.{_+_, _^_, _<_, _≤_};
+ghost use lib.Dec.{T};
+ghost use lib.ListN.{length};
+ghost use mathlib.Core.List.{_∷_, _++_};
+ghost use Rattle.parameters.specs.Sound.{Sound};
+ghost use Rattle.shake.specs.Fold.{Rate};
+ghost use Rattle.shake.specs.Shake.{shake};
+ghost use Rattle.packing.specs.Packing.{allBelow, pack, size, digits};
+ghost use Rattle.sampling.specs.Sampling.{enough, yield};
+ghost use Rattle.scheme.specs.Strings.{string10, string10-round};
+ghost use Rattle.scheme.specs.Key.{matrix as matrixOf, matrixDrawn, matrixCount, exponentsFrom, exponentsDrawn};
+ghost use Rattle.scheme.specs.Round.{maskExponents, maskValues, maskBlock};
+ghost use Rattle.scheme.specs.Sign.{firstChallenges, firstDrawn, secondChallenges, secondDrawn};
+ghost use Rattle.expand.specs.Expanded.{Expanded, ExpandedFrom};
+
+// The round i in two bytes, low byte first.
+pub fn round_number(i: usize) -> [u8; 2]
+    ensures { λ r. ⌜ r ≡ digits 8 2 i ⌝ }
+{
+    [(i % 256) as u8, (i / 256 % 256) as u8]
+}
+
+// n fields of width w below m, each plus d.
+fn sampled(w: usize, m: u8, d: u8, n: usize, block: &[u8], out: &mut [u8]) -> bool
+    requires { ⌜ (n + 8 ≤ length (now out)) × (0 < w) × (w ≤ 8) × (2 ^ w + d ≤ 256) ⌝ }
+    ensures { λ r. ⌜ ExpandedFrom w m d n (now (block .entry)) r (now (out .exit)) ⌝ }
+{
+    let got = sampling::draw::sample(out, block, w, m, d, n);
+    n <= got
+}
+
+// The same from a tag and three parts, hashed into a block of some bytes.
+fn sampled3(
+    rate: usize,
+    tag: u8,
+    a: &[u8],
+    b: &[u8],
+    c: &[u8],
+    bytes: usize,
+    w: usize,
+    m: u8,
+    d: u8,
+    n: usize,
+    out: &mut [u8],
+) -> bool
+    requires { ⌜ Rate rate × (bytes ≤ 384) × (n + 8 ≤ length (now out)) × (0 < w) × (w ≤ 8) × (2 ^ w + d ≤ 256) ⌝ }
+    ensures { λ r. ⌜ ExpandedFrom w m d n (shake rate (tag ∷ now (a .entry) ++ now (b .entry) ++ now (c .entry)) bytes) r (now (out .exit)) ⌝ }
+{
+    let mut block = [0u8; 384];
+    hashing::hash3(rate, tag, a, b, c, &mut block[..bytes]);
+    sampled(w, m, d, n, &block[..bytes], out)
+}
+
+// V of a public seed.
+pub fn matrix(p: Params, public: &[u8], block: &mut [u8], vs: &mut [u8]) -> bool
+    requires { ⌜ Sound p × (length (now block) ≡ p .matrix) × (length (now vs) ≡ matrixCount p + 8) ⌝ }
+    ensures { λ r. ⌜ Expanded (matrixDrawn p (now (public .entry))) (matrixCount p) (matrixOf p (now (public .entry))) r (now (vs .exit)) ⌝ }
+{
+    let n = p.n;
+    let k = p.k;
+    hashing::hash1(p.rate, 13, public, block);
+    sampled(7, 127, 0, (n - k) * k, block, vs)
+}
+
+// The key exponents of a secret seed.
+pub fn key_exponents(p: Params, secret: &[u8], es: &mut [u8]) -> bool
+    requires { ⌜ Sound p × (p .n + 8 ≤ length (now es)) ⌝ }
+    ensures { λ r. ⌜ Expanded (exponentsDrawn p (string10 (now (secret .entry)))) (p .n) (exponentsFrom p (string10 (now (secret .entry)))) r (now (es .exit)) ⌝ }
+{
+    let bytes = p.exponents;
+    let mut block = [0u8; 256];
+    hashing::hash1(p.rate, 10, secret, &mut block[..bytes]);
+    sampled(3, 7, 0, p.n, &block[..bytes], es)
+}
+
+// e' of round i.
+pub fn mask_exponents(p: Params, seed: &[u8], salt: &[u8], i: usize, es: &mut [u8]) -> bool
+    requires { ⌜ Sound p × (p .n + 8 ≤ length (now es)) ⌝ }
+    ensures { λ r. ⌜ Expanded (exponentsDrawn p (string10-round (now (seed .entry)) (now (salt .entry)) i)) (p .n) (maskExponents p (now (seed .entry)) (now (salt .entry)) i) r (now (es .exit)) ⌝ }
+{
+    let number = round_number(i);
+    sampled3(
+        p.rate,
+        10,
+        seed,
+        salt,
+        &number,
+        p.exponents,
+        3,
+        7,
+        0,
+        p.n,
+        es,
+    )
+}
+
+// u' of round i.
+pub fn mask_values(p: Params, seed: &[u8], salt: &[u8], i: usize, us: &mut [u8]) -> bool
+    requires { ⌜ Sound p × (p .n + 8 ≤ length (now us)) ⌝ }
+    ensures { λ r. ⌜ Expanded (enough (p .n) (yield 7 127 0 (maskBlock p (now (seed .entry)) (now (salt .entry)) i))) (p .n) (maskValues p (now (seed .entry)) (now (salt .entry)) i) r (now (us .exit)) ⌝ }
+{
+    let number = round_number(i);
+    sampled3(p.rate, 11, seed, salt, &number, p.mask, 7, 127, 0, p.n, us)
+}
+
+// The first challenges.
+pub fn first_challenges(p: Params, c: &[u8], salt: &[u8], msg: &[u8], bs: &mut [u8]) -> bool
+    requires { ⌜ Sound p × (p .t + 8 ≤ length (now bs)) ⌝ }
+    ensures { λ r. ⌜ Expanded (firstDrawn p (now (c .entry)) (now (salt .entry)) (now (msg .entry))) (p .t) (firstChallenges p (now (c .entry)) (now (salt .entry)) (now (msg .entry))) r (now (bs .exit)) ⌝ }
+{
+    sampled3(p.rate, 7, c, salt, msg, p.first, 7, 126, 1, p.t, bs)
+}
+
+// Values in range, packed where there is room for just them.
+pub fn pack_values(xs: &[u8], out: &mut [u8])
+    requires { ⌜ T (allBelow 127 (now xs)) × (length (now out) ≡ size 7 (length (now xs))) ⌝ }
+    ensures { λ r. ⌜ now (out .exit) ≡ pack 7 (now (xs .entry)) ⌝ }
+{
+    packing::pack_values(xs, out);
+}
+
+// Exponents in range, likewise.
+pub fn pack_exponents(xs: &[u8], out: &mut [u8])
+    requires { ⌜ T (allBelow 7 (now xs)) × (length (now out) ≡ size 3 (length (now xs))) ⌝ }
+    ensures { λ r. ⌜ now (out .exit) ≡ pack 3 (now (xs .entry)) ⌝ }
+{
+    packing::pack_exponents(xs, out);
+}
+
+// The second challenges, of the first challenges bs.
+pub fn second_challenges(
+    p: Params,
+    c: &[u8],
+    bs: &[u8],
+    h: &[u8],
+    salt: &[u8],
+    msg: &[u8],
+    out: &mut [u8],
+) -> bool
+    requires { ⌜ Sound p × (length (now bs) ≡ p .t) × T (allBelow 127 (now bs)) × (length (now out) ≡ p .t) ⌝ }
+    ensures { λ r. ⌜ Expanded (secondDrawn p (now (c .entry)) (now (bs .entry)) (now (h .entry)) (now (salt .entry)) (now (msg .entry))) (p .t) (secondChallenges p (now (c .entry)) (now (bs .entry)) (now (h .entry)) (now (salt .entry)) (now (msg .entry))) r (now (out .exit)) ⌝ }
+{
+    let bytes = p.second;
+    let size = packing::packed_size(p.t, 7);
+    let mut packed = [0u8; 448];
+    pack_values(bs, &mut packed[..size]);
+    let mut block = [0u8; 1024];
+    hashing::hash5(
+        p.rate,
+        8,
+        c,
+        &packed[..size],
+        h,
+        salt,
+        msg,
+        &mut block[..bytes],
+    );
+    sampling::shuffle::shuffle(out, &block[..bytes], p.w)
+}

@@ -1,0 +1,4 @@
+pub mod Rotate
+pub mod Congruence
+pub mod Inverse
+pub mod Place

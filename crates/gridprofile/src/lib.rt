@@ -1,0 +1,80 @@
+// The C interface: every entry over bytes and numbers, with the contract of the entry that it calls.
+// A slice is a pointer and a length in C.
+ghost use mathlib.Core.Path.{_≡_};
+ghost use Prim.Native.Nat.{_-_, _*_};
+ghost use lib.ListN.{length};
+ghost use Rattle.outcome.specs.Answer.{Answers};
+ghost use Rattle.shake.specs.Shake.{shake128};
+ghost use Rattle.packing.specs.Packing.{pack, unpack, packChecks, unpackChecks};
+ghost use Rattle.parameters.specs.Categories.{category1};
+ghost use Rattle.sampling.specs.Entry.{AnswersSample, AnswersShuffle};
+
+#[no_mangle]
+pub extern "C" fn gridprofile_shake128(input: &[u8], out: &mut [u8])
+    ensures { λ r. ⌜ now (out .exit) ≡ shake128 (now (input .entry)) (length (now (out .entry))) ⌝ }
+{
+    shake::shake128(input, out);
+}
+
+#[no_mangle]
+pub extern "C" fn gridprofile_pack_values(values: &[u8], packed: &mut [u8]) -> u8
+    ensures { λ r. ⌜ Answers (packChecks 7 127 (now (values .entry)) (length (now (packed .entry)))) (pack 7 (now (values .entry))) (now (packed .entry)) r (now (packed .exit)) ⌝ }
+{
+    packing::pack_values(values, packed)
+}
+
+#[no_mangle]
+pub extern "C" fn gridprofile_unpack_values(packed: &[u8], values: &mut [u8]) -> u8
+    ensures { λ r. ⌜ Answers (unpackChecks 7 127 (length (now (values .entry))) (now (packed .entry))) (unpack 7 (length (now (values .entry))) (now (packed .entry))) (now (values .entry)) r (now (values .exit)) ⌝ }
+{
+    packing::unpack_values(packed, values)
+}
+
+#[no_mangle]
+pub extern "C" fn gridprofile_pack_exponents(exponents: &[u8], packed: &mut [u8]) -> u8
+    ensures { λ r. ⌜ Answers (packChecks 3 7 (now (exponents .entry)) (length (now (packed .entry)))) (pack 3 (now (exponents .entry))) (now (packed .entry)) r (now (packed .exit)) ⌝ }
+{
+    packing::pack_exponents(exponents, packed)
+}
+
+#[no_mangle]
+pub extern "C" fn gridprofile_unpack_exponents(packed: &[u8], exponents: &mut [u8]) -> u8
+    ensures { λ r. ⌜ Answers (unpackChecks 3 7 (length (now (exponents .entry))) (now (packed .entry))) (unpack 3 (length (now (exponents .entry))) (now (packed .entry))) (now (exponents .entry)) r (now (exponents .exit)) ⌝ }
+{
+    packing::unpack_exponents(packed, exponents)
+}
+
+#[no_mangle]
+pub extern "C" fn gridprofile_sample_matrix(block: &[u8], out: &mut [u8]) -> u8
+    ensures { λ r. ⌜ AnswersSample 7 127 0 ((category1 .n - category1 .k) * category1 .k) (category1 .matrix) (now (block .entry)) (now (out .entry)) r (now (out .exit)) ⌝ }
+{
+    category1::sample_matrix(block, out)
+}
+
+#[no_mangle]
+pub extern "C" fn gridprofile_sample_exponents(block: &[u8], out: &mut [u8]) -> u8
+    ensures { λ r. ⌜ AnswersSample 3 7 0 (category1 .n) (category1 .exponents) (now (block .entry)) (now (out .entry)) r (now (out .exit)) ⌝ }
+{
+    category1::sample_exponents(block, out)
+}
+
+#[no_mangle]
+pub extern "C" fn gridprofile_sample_mask_values(block: &[u8], out: &mut [u8]) -> u8
+    ensures { λ r. ⌜ AnswersSample 7 127 0 (category1 .n) (category1 .mask) (now (block .entry)) (now (out .entry)) r (now (out .exit)) ⌝ }
+{
+    category1::sample_mask_values(block, out)
+}
+
+#[no_mangle]
+pub extern "C" fn gridprofile_sample_first_challenges(block: &[u8], out: &mut [u8]) -> u8
+    ensures { λ r. ⌜ AnswersSample 7 126 1 (category1 .t) (category1 .first) (now (block .entry)) (now (out .entry)) r (now (out .exit)) ⌝ }
+{
+    category1::sample_first_challenges(block, out)
+}
+
+#[no_mangle]
+pub extern "C" fn gridprofile_sample_second_challenge(block: &[u8], out: &mut [u8]) -> u8
+    ensures { λ r. ⌜ AnswersShuffle (category1 .t) (category1 .w) (category1 .second) (now (block .entry)) (now (out .entry)) r (now (out .exit)) ⌝ }
+{
+    category1::sample_second_challenge(block, out)
+}

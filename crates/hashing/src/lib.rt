@@ -1,0 +1,55 @@
+// Hashing tagged strings that are given in parts: the tag byte, then the parts in order. No string is put together.
+use shake::Sponge;
+ghost use mathlib.Core.Path.{_≡_};
+ghost use mathlib.Core.List.{List, [], _∷_, _++_};
+ghost use lib.ListN.{length};
+ghost use Rattle.shake.specs.Fold.{Rate, Holds};
+ghost use Rattle.shake.specs.Shake.{shake};
+
+// A sponge that holds the tag alone.
+pub fn tagged(rate: usize, tag: u8) -> Sponge
+    requires { ⌜ Rate rate ⌝ }
+    ensures { λ r. ⌜ Holds r rate (tag ∷ []) ⌝ }
+{
+    shake::absorb_byte(shake::new(rate), tag)
+}
+
+pub fn hash1(rate: usize, tag: u8, a: &[u8], out: &mut [u8])
+    requires { ⌜ Rate rate ⌝ }
+    ensures { λ r. ⌜ now (out .exit) ≡ shake rate (tag ∷ now (a .entry)) (length (now (out .entry))) ⌝ }
+{
+    shake::squeeze(shake::absorb(tagged(rate, tag), a), out);
+}
+
+pub fn hash2(rate: usize, tag: u8, a: &[u8], b: &[u8], out: &mut [u8])
+    requires { ⌜ Rate rate ⌝ }
+    ensures { λ r. ⌜ now (out .exit) ≡ shake rate (tag ∷ now (a .entry) ++ now (b .entry)) (length (now (out .entry))) ⌝ }
+{
+    let s = shake::absorb(tagged(rate, tag), a);
+    shake::squeeze(shake::absorb(s, b), out);
+}
+
+pub fn hash3(rate: usize, tag: u8, a: &[u8], b: &[u8], c: &[u8], out: &mut [u8])
+    requires { ⌜ Rate rate ⌝ }
+    ensures { λ r. ⌜ now (out .exit) ≡ shake rate (tag ∷ now (a .entry) ++ now (b .entry) ++ now (c .entry)) (length (now (out .entry))) ⌝ }
+{
+    let s = shake::absorb(tagged(rate, tag), a);
+    shake::squeeze(shake::absorb(shake::absorb(s, b), c), out);
+}
+
+pub fn hash4(rate: usize, tag: u8, a: &[u8], b: &[u8], c: &[u8], d: &[u8], out: &mut [u8])
+    requires { ⌜ Rate rate ⌝ }
+    ensures { λ r. ⌜ now (out .exit) ≡ shake rate (tag ∷ now (a .entry) ++ now (b .entry) ++ now (c .entry) ++ now (d .entry)) (length (now (out .entry))) ⌝ }
+{
+    let s = shake::absorb(shake::absorb(tagged(rate, tag), a), b);
+    shake::squeeze(shake::absorb(shake::absorb(s, c), d), out);
+}
+
+pub fn hash5(rate: usize, tag: u8, a: &[u8], b: &[u8], c: &[u8], d: &[u8], e: &[u8], out: &mut [u8])
+    requires { ⌜ Rate rate ⌝ }
+    ensures { λ r. ⌜ now (out .exit) ≡ shake rate (tag ∷ now (a .entry) ++ now (b .entry) ++ now (c .entry) ++ now (d .entry) ++ now (e .entry)) (length (now (out .entry))) ⌝ }
+{
+    let s = shake::absorb(shake::absorb(tagged(rate, tag), a), b);
+    let t = shake::absorb(shake::absorb(s, c), d);
+    shake::squeeze(shake::absorb(t, e), out);
+}

@@ -1,0 +1,4 @@
+pub mod Tables
+pub mod Complement
+pub mod Laws
+pub mod Words

@@ -1,0 +1,11 @@
+-- Ranges as the contracts state them. Assumes nothing.
+use mathlib.Core.Path.{_≡_, subst, sym}
+use mathlib.Core.Bool.{Bool, true}
+use mathlib.Core.List.{List}
+use Prim.Native.Nat.{ℕ}
+use lib.Dec.{T}
+use Rattle.packing.specs.Packing.{allBelow}
+use Rattle.packing.proofs.Below.{Below, below-test}
+
+pub kept-below : (m : ℕ) (xs : List ℕ) → Below m xs → T (allBelow m xs)
+kept-below m xs b = subst (λ (t : Bool). T t) (sym (below-test b)) tt

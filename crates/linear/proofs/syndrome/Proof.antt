@@ -1,0 +1,131 @@
+-- `syndrome`: after i rows the buffer holds the first i places of the result. Assumes nothing.
+use mathlib.Core.Path.{_≡_, _∙_, ap, sym, refl}
+use Prim.Native.Nat.{ℕ, _≤_, _-_, _+_, _*_, _%_, _<_}
+use native.Mathlib.Omega.{arith}
+use lib.ListN.{length, drop, take, getD, length-take, length-set, set}
+use lib.Seq.{length-take-le}
+use native.Mathlib.Nat.{mul-suc}
+use native.Mathlib.Numerals.{add-one}
+use lib.Dec.{T}
+use Rattle.packing.proofs.Below.{below, below-at, below-take, below-drop}
+use Rattle.linear.proofs.Kept.{kept-below}
+use Rattle.linear.specs.Linear.{dot, syndrome}
+use Rattle.linear.proofs.Rows.{rows, rows-none, rows-store, rows-end, row-within, row-part}
+use Rattle.linear.proofs.syndrome.Statement.{statement}
+use Rattle.linear.proofs.syndrome.Tie as tie
+use Rattle.linear.proofs.syndrome.Reads as reads
+use Rattle.linear.proofs.syndrome.Lts as lts
+use Rattle.field.proofs.reduce.Reads as reduce-reads
+use Rattle.linear.proofs.row_sum.Reads as row-sum-reads
+
+abbrev Inv-loop : tie.InvT-loop
+Inv-loop k vs x out₀ covered i₀ at₀ out i at =
+    (i ≤ length out₀) × (at ≡ k * i) × (length out ≡ length out₀) × (out ≡ rows k vs x out₀ i)
+
+abbrev μ-loop : tie.MeasureT-loop
+μ-loop k vs x out₀ covered i₀ at₀ out i at = length out₀ - i
+
+slice-aggregate-covered : tie.Need-slice-aggregate-covered Inv-loop μ-loop
+slice-aggregate-covered c = sym (length-take-le _ _ (omega arith))
+
+loop-holds : tie.Need-loop-holds Inv-loop μ-loop
+loop-holds c = (omega arith, omega arith, refl, rows-none _ _ _ _ (c .before .before .before .before .pre .0))
+
+add-end : tie.Need-add-end Inv-loop μ-loop
+add-end c =
+    let start = c .before .before .before .before .before .before in
+    let fits = row-within (start .args .k) (c .before .loop .i) (length (start .args .out .now)) (omega arith) in
+    omega arith
+
+sub-row-sum : tie.Need-sub-row-sum Inv-loop μ-loop
+sub-row-sum c = omega arith
+
+part-row-sum-start : tie.Need-part-row-sum-start Inv-loop μ-loop
+part-row-sum-start c =
+    let start = c .before .before .before .before .before .before in
+    let fits = row-within (start .args .k) (c .before .loop .i) (length (start .args .out .now)) (omega arith) in
+    omega arith
+
+part-row-sum-end : tie.Need-part-row-sum-end Inv-loop μ-loop
+part-row-sum-end c =
+    let start = c .before .before .before .before .before .before in
+    let fits = row-within (start .args .k) (c .before .loop .i) (length (start .args .out .now)) (omega arith) in
+    omega arith
+
+row-sum-requires : tie.Need-row-sum-requires Inv-loop μ-loop
+row-sum-requires c κs =
+    let start = c .before .before .before .before .before .before .before in
+    let i = c .before .before .loop .i in
+    let part = row-part (start .args .k) (start .args .vs .now) (length (start .args .out .now)) i (c .before .before .loop .at) (start .pre .1) (omega arith) (c .before .before .loop .inv .1) in (
+      part .1 ∙ sym (length-take-le _ _ (omega arith)),
+      rw (length-take-le (start .args .k) (start .args .x .now) (omega arith)) (omega arith),
+      rw (part .0) (kept-below 127 _ (below-take (start .args .k) (below-drop (start .args .k * i) (below 127 _ (start .pre .3))))),
+      kept-below 127 _ (below-take (start .args .k) (below 127 _ (start .pre .4))),
+    )
+
+add-reduce : tie.Need-add-reduce Inv-loop μ-loop
+add-reduce c = omega arith
+
+shared-slice-read-reduce : tie.Need-shared-slice-read-reduce Inv-loop μ-loop
+shared-slice-read-reduce c = omega arith
+
+cast-reduce : tie.Need-cast-reduce Inv-loop μ-loop
+cast-reduce c = omega (arith, c .shared-slice-known3 .given (c .before .before .before .before .before .before .before .before .before .args .k + c .before .before .before .before .loop .i))
+
+add-reduce-2 : tie.Need-add-reduce-2 Inv-loop μ-loop
+add-reduce-2 c = omega (arith, c .shared-slice-known3 .given (c .before .before .before .before .before .before .before .before .before .args .k + c .before .before .before .before .loop .i))
+
+reduce-requires : tie.Need-reduce-requires Inv-loop μ-loop
+reduce-requires c κs = tt
+
+slice-write-out : tie.Need-slice-write-out Inv-loop μ-loop
+slice-write-out c = omega arith
+
+add-i : tie.Need-add-i Inv-loop μ-loop
+add-i c = omega arith
+
+loop-less : tie.Need-loop-less Inv-loop μ-loop
+loop-less c = omega arith
+
+loop-again : tie.Need-loop-again Inv-loop μ-loop
+loop-again c =
+    let start = c .before .before .before .before .before .before .before .before .before .before in
+    let now = c .before .before .before .before .before .loop in
+    let part = row-part (start .args .k) (start .args .vs .now) (length (start .args .out .now)) (now .i) (now .at) (start .pre .1) (omega arith) (now .inv .1) in (
+      omega arith,
+      rw (add-one, mul-suc, now .inv .1),
+      length-set (now .out) (now .i) (c .reduce .result .0) ∙ now .inv .2,
+      rows-store _ _ _ _ (start .pre .0) (now .out) (now .i) _ (c .before .before .row-sum .result) (now .inv .3) (omega arith)
+          (c .before .before .row-sum .ensures .0 ∙ rw (part .0)) (c .reduce .ensures),
+    )
+
+same-length : tie.Need-same-length Inv-loop μ-loop
+same-length c = c .before .loop .inv .2
+
+returns : tie.Need-returns Inv-loop μ-loop
+returns c = c .before .loop .inv .3 ∙ rows-end _ _ _ _ (c .before .before .before .before .before .before .pre .0) (c .before .loop .i) (omega arith)
+
+pub syndrome-spec : {M : Type 1} → statement M
+syndrome-spec =
+    tie.close
+    (tie.spec
+    Inv-loop
+    μ-loop
+    slice-aggregate-covered
+    loop-holds
+    add-end
+    sub-row-sum
+    part-row-sum-start
+    part-row-sum-end
+    row-sum-requires
+    add-reduce
+    shared-slice-read-reduce
+    cast-reduce
+    add-reduce-2
+    reduce-requires
+    slice-write-out
+    add-i
+    loop-less
+    loop-again
+    same-length
+    returns)

@@ -1,0 +1,5 @@
+pub mod RuleLaws
+pub mod LineLaws
+pub mod EntryLaws
+pub mod Theorems
+pub mod Bench

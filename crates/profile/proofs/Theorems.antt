@@ -1,0 +1,78 @@
+-- The theorems of specs/Theorems.antt. Assumes nothing.
+use mathlib.Core.Path.{_≡_, refl, _∙_, sym, ap}
+use mathlib.Core.Bool.{Bool, true, false}
+use mathlib.Core.List.{List}
+use Prim.Native.Nat.{ℕ}
+use lib.Dec.{T}
+use lib.ListN.{length, take}
+use borrow.Author.Tests.{le-leb}
+use Rattle.decimal.specs.Decimal.{decimal, lastDigits}
+use Rattle.profile.specs.declared.Limit.the-variants.{Share, Offset}
+use Rattle.profile.specs.declared.Trip.{Trip}
+use Rattle.profile.specs.declared.Profile.{Profile}
+use Rattle.profile.specs.Result.{done}
+use Rattle.profile.specs.Rules.{_to_, contains, valid, obeys, fieldsOf}
+use Rattle.profile.specs.Line.{tag, shortest, longest, fieldBytes, written, lineOf, scanned, sameBytes, readChecks, readLine}
+use Rattle.profile.specs.Theorems.{ReadsWritten, WritesRead, OneLine, LineLengths, Reached}
+use Rattle.profile.proofs.RuleLaws.{test, parts, passed-done, done-passed, holds}
+use Rattle.profile.proofs.LineLaws.{line-lengths, same-self, same-equal, scanned-line}
+
+pub line-lengths-hold : LineLengths
+line-lengths-hold table p ok = line-lengths p (parts table p ok .fields)
+
+tag-first : (p : Profile) → take (length tag) (lineOf p) ≡ tag
+unfolding lineOf
+tag-first p = refl
+
+pub reads-written : ReadsWritten
+unfolding readLine
+reads-written table p ok =
+    let line = lineOf p in
+    let back = scanned-line p (parts table p ok .fields) in
+    let bounds = line-lengths-hold table p ok in
+    let sized : contains (shortest to longest) (length line) ≡ true =
+    rw (le-leb shortest (length line) (bounds .0)) (le-leb (length line) longest (bounds .1)) in
+    let tagged : sameBytes (take (length tag) line) tag ≡ true = ap (λ (l : List ℕ). sameBytes l tag) (tag-first p) ∙ same-self tag in
+    let still-valid : T (valid table (scanned line)) = rw back ok in
+    let respelled : sameBytes (lineOf (scanned line)) line ≡ true =
+    ap (λ (q : Profile). sameBytes (lineOf q) line) back ∙ same-self line in
+    passed-done (readChecks table line) (scanned line)
+    (test _ sized, (test _ tagged, (still-valid, (test _ respelled, tt))))
+    ∙ ap done back
+
+pub writes-read : WritesRead
+unfolding readLine
+writes-read table line p e =
+    let found = done-passed (readChecks table line) (scanned line) p e in
+    let tests = found .0 in
+    rw (← found .1) (same-equal (lineOf (scanned line)) line (holds _ (tests .1 .1 .1 .0)), tests .1 .1 .0)
+
+pub one-line : OneLine
+one-line table line line′ p e e′ = sym (writes-read table line p e .0) ∙ writes-read table line′ p e′ .0
+
+-- ---- the shortest and the longest line
+
+-- a profile of country AA whose trip points have these limits, all with one delay
+sample : ℕ → ℕ → ℕ → ℕ → ℕ → ℕ → Profile
+sample class serial volts under-voltage offset delay =
+    let share : ℕ → Trip = λ n. record { limit = Share n; delay = delay } in
+    let off : Bool → Trip = λ under. record { limit = Offset under offset; delay = delay } in
+    record {
+      country = record { first = 65; second = 65 };
+      class = class;
+      serial = serial;
+      volts = volts;
+      hertz = 50;
+      «over_voltage» = share 1001;
+      «under_voltage» = share under-voltage;
+      «over_frequency» = off false;
+      «under_frequency» = off true;
+    }
+
+pub shortest-reached : Reached shortest
+unfolding sample valid obeys fieldsOf lineOf written fieldBytes decimal lastDigits
+shortest-reached = (sample 65 1 100 1 1 20, tt, refl)
+
+pub longest-reached : Reached longest
+unfolding sample valid obeys fieldsOf lineOf written fieldBytes decimal lastDigits
+longest-reached = (sample 68 4294967295 1000 999 5000 60000, tt, refl)

@@ -1,0 +1,50 @@
+-- `profile::rules::ratings_obey` meets its contract: a rule that fails decides, and else the hertz. Assumes nothing.
+use mathlib.Core.Bool.{and-true, or-false}
+use borrow.Author.Tests.{eq-eqb, ne-eqb}
+use Rattle.profile.specs.Rules.{obeys}
+use Rattle.profile.proofs.RuleLaws.{failing, passing, one-number}
+use borrow.Author.Needs.{needs}
+use Rattle.profile.proofs.rules.ratings_obey.Statement.{statement}
+use Rattle.profile.proofs.rules.ratings_obey.Tie as tie
+
+within-requires : tie.Need-within-requires
+within-requires c κs = search needs
+
+returns : tie.Need-returns
+unfolding obeys
+returns c = rw (failing (c .before .within .ensures) (c .if1 .taken))
+
+within-requires-2 : tie.Need-within-requires-2
+within-requires-2 c κs = search needs
+
+returns-2 : tie.Need-returns-2
+unfolding obeys
+returns-2 c =
+    let past-serial = c .before .before in
+    let serial = passing (past-serial .before .within .ensures) (past-serial .if1 .left) in
+    let volts = failing (c .before .within2 .ensures) (c .if2 .taken) in
+    rw (serial, volts)
+
+returns-3 : tie.Need-returns-3
+unfolding obeys
+returns-3 c =
+    let past-volts = c .before in
+    let past-serial = past-volts .before .before in
+    let hertz = past-serial .before .before .args .hertz in
+    let serial = passing (past-serial .before .within .ensures) (past-serial .if1 .left) in
+    let volts = passing (past-volts .before .within2 .ensures) (past-volts .if2 .left) in
+    rw (serial, volts, one-number 50 hertz, eq-eqb hertz 50 (c .if3 .taken))
+
+returns-4 : tie.Need-returns-4
+unfolding obeys
+returns-4 c =
+    let past-volts = c .before in
+    let past-serial = past-volts .before .before in
+    let hertz = past-serial .before .before .args .hertz in
+    let serial = passing (past-serial .before .within .ensures) (past-serial .if1 .left) in
+    let volts = passing (past-volts .before .within2 .ensures) (past-volts .if2 .left) in
+    rw (serial, volts, one-number 50 hertz, ne-eqb hertz 50 (c .if3 .left), one-number 60 hertz) (simp (or-false, and-true))
+
+pub ratings-obey-spec : {M : Type 1} → statement M
+ratings-obey-spec =
+    tie.close (tie.spec within-requires returns within-requires-2 returns-2 returns-3 returns-4)

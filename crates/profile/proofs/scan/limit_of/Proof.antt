@@ -1,0 +1,13 @@
+-- `profile::scan::limit_of` meets its contract: the test says whether the kind is a share. Assumes nothing.
+use borrow.Author.Tests.{eq-eqb, ne-eqb}
+use Rattle.profile.proofs.scan.limit_of.Statement.{statement}
+use Rattle.profile.proofs.scan.limit_of.Tie as tie
+
+returns : tie.Need-returns
+returns c = rw (eq-eqb _ _ (c .if1 .taken))
+
+returns-2 : tie.Need-returns-2
+returns-2 c = rw (ne-eqb _ _ (c .if1 .left))
+
+pub limit-of-spec : {M : Type 1} → statement M
+limit-of-spec = tie.close (tie.spec returns returns-2)

@@ -1,0 +1,64 @@
+-- `profile::scan::scan` meets its contract: field by field, each after the one before it. Assumes nothing.
+use Rattle.profile.proofs.LineLaws.{scanned-parts}
+use borrow.Author.Needs.{needs}
+use Rattle.profile.proofs.scan.scan.Statement.{statement}
+use Rattle.profile.proofs.scan.scan.Tie as tie
+
+field-at-requires : tie.Need-field-at-requires
+field-at-requires c κs = c .before .pre
+
+field-at-requires-2 : tie.Need-field-at-requires-2
+field-at-requires-2 c κs = c .field-at .ensures .within
+
+field-at-requires-3 : tie.Need-field-at-requires-3
+field-at-requires-3 c κs = c .field-at2 .ensures .within
+
+trip-at-requires : tie.Need-trip-at-requires
+trip-at-requires c κs = c .field-at3 .ensures .within
+
+trip-at-requires-2 : tie.Need-trip-at-requires-2
+trip-at-requires-2 c κs = c .trip-at .ensures .within
+
+trip-at-requires-3 : tie.Need-trip-at-requires-3
+trip-at-requires-3 c κs = c .trip-at2 .ensures .within
+
+trip-at-requires-4 : tie.Need-trip-at-requires-4
+trip-at-requires-4 c κs = c .trip-at3 .ensures .within
+
+shared-slice-read-t14 : tie.Need-shared-slice-read-t14
+shared-slice-read-t14 c = search needs
+
+shared-slice-read-t16 : tie.Need-shared-slice-read-t16
+shared-slice-read-t16 c = search needs
+
+shared-slice-read-t19 : tie.Need-shared-slice-read-t19
+shared-slice-read-t19 c = search needs
+
+returns : tie.Need-returns
+returns c =
+    let trips = c .before .before .before .before .before .before .before in
+    let ratings = trips .before .before .before .before in
+    scanned-parts
+    (ratings .before .before .field-at .ensures)
+    (ratings .before .field-at2 .ensures)
+    (ratings .field-at3 .ensures)
+    (trips .before .before .before .trip-at .ensures)
+    (trips .before .before .trip-at2 .ensures)
+    (trips .before .trip-at3 .ensures)
+    (trips .trip-at4 .ensures)
+
+pub scan-spec : {M : Type 1} → statement M
+scan-spec =
+    tie.close
+    (tie.spec
+    field-at-requires
+    field-at-requires-2
+    field-at-requires-3
+    trip-at-requires
+    trip-at-requires-2
+    trip-at-requires-3
+    trip-at-requires-4
+    shared-slice-read-t14
+    shared-slice-read-t16
+    shared-slice-read-t19
+    returns)

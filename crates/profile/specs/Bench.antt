@@ -1,0 +1,80 @@
+-- Document 01's bench cases of the class, and lines with what reading them answers. Assumes nothing.
+use mathlib.Core.Path.{_≡_}
+use mathlib.Core.List.{List, [], _∷_, map}
+use Prim.Native.Nat.{ℕ, zero, suc}
+use Prim.Native.Char.{code}
+use Prim.Native.String.{String, len, charAt}
+use Rattle.profile.specs.Result.{numberIn, valuesIn}
+use Rattle.profile.specs.Rules.{classes, classIn}
+use Rattle.profile.specs.Line.{readLine}
+
+-- volts, the number of the table "Returned", and the class letter
+pub record ClassCase : Type 0 where
+  pub volts : ℕ
+  pub number : ℕ
+  pub letters : List ℕ
+
+abbrev pub gives : ℕ → ℕ → List ℕ → ClassCase
+gives volts number letters = record { volts = volts; number = number; letters = letters }
+
+-- 139 A, 140 B, 259 B, 260 C; 99 and 1001 volts: 5
+abbrev pub classCases : List ClassCase
+classCases =
+    gives 139 0 (65 ∷ []) ∷ gives 140 0 (66 ∷ []) ∷ gives 259 0 (66 ∷ []) ∷ gives 260 0 (67 ∷ [])
+    ∷ gives 99 5 [] ∷ gives 1001 5 [] ∷ []
+
+abbrev pub ClassBench : Type 0
+ClassBench =
+    (map (λ (c : ClassCase). numberIn (classIn classes (c .volts))) classCases ≡ map (λ (c : ClassCase). c .number) classCases)
+    × (map (λ (c : ClassCase). valuesIn (classIn classes (c .volts))) classCases ≡ map (λ (c : ClassCase). c .letters) classCases)
+
+-- the bytes of a text without accents, n of them from place i
+abbrev pub bytesFrom : String → ℕ → ℕ → List ℕ
+bytesFrom text i zero = []
+bytesFrom text i (suc n) = code (charAt text i) ∷ bytesFrom text (suc i) n
+
+abbrev pub bytes : String → List ℕ
+bytes text = bytesFrom text 0 (len text)
+
+-- a line, and the number of the table "Returned"
+pub record LineCase : Type 0 where
+  pub line : String
+  pub number : ℕ
+
+abbrev pub answers : String → ℕ → LineCase
+answers line number = record { line = line; number = number }
+
+-- Two lines of document 01, the shortest and the longest; then, with 5, what breaks a rule: the tag, a lower-case country, the
+-- class against the volts, a missing, a quoted and an added field, a leading zero, a plus, a minus where none may stand and none
+-- where one must, `-0`, the serial past its range by one and by twenty digits, hertz, a delay, no LF, and bytes after it; with 1,
+-- a line too short and one too long.
+abbrev pub lineCases : List LineCase
+lineCases =
+    answers "GP1,XA,B,12,230,50,1150,100,800,1500,1500,100,-2500,100\n" 0
+    ∷ answers "GP1,XA,C,5,400,50,1100,200,850,1500,1500,100,-2500,100\n" 0
+    ∷ answers "GP1,AA,A,1,100,50,1001,20,1,20,1,20,-1,20\n" 0
+    ∷ answers "GP1,ZZ,D,4294967295,1000,60,1500,60000,999,60000,5000,60000,-5000,60000\n" 0
+    ∷ answers "GP2,XA,B,12,230,50,1150,100,800,1500,1500,100,-2500,100\n" 5
+    ∷ answers "GP1,Xa,B,12,230,50,1150,100,800,1500,1500,100,-2500,100\n" 5
+    ∷ answers "GP1,XA,C,12,230,50,1150,100,800,1500,1500,100,-2500,100\n" 5
+    ∷ answers "GP1,XA,B,,230,50,1150,100,800,1500,1500,100,-2500,100\n" 5
+    ∷ answers "GP1,XA,B,\"12\",230,50,1150,100,800,1500,1500,100,-2500,100\n" 5
+    ∷ answers "GP1,XA,B,12,230,50,1150,100,800,1500,1500,100,-2500,100,1\n" 5
+    ∷ answers "GP1,XA,B,012,230,50,1150,100,800,1500,1500,100,-2500,100\n" 5
+    ∷ answers "GP1,XA,B,+12,230,50,1150,100,800,1500,1500,100,-2500,100\n" 5
+    ∷ answers "GP1,XA,B,12,230,50,1150,100,800,1500,-1500,100,-2500,100\n" 5
+    ∷ answers "GP1,XA,B,12,230,50,1150,100,800,1500,1500,100,2500,100\n" 5
+    ∷ answers "GP1,XA,B,12,230,50,1150,100,800,1500,1500,100,-0,100\n" 5
+    ∷ answers "GP1,XA,B,4294967296,230,50,1150,100,800,1500,1500,100,-2500,100\n" 5
+    ∷ answers "GP1,XA,B,10000000000000000000,230,50,1150,20,800,20,1500,20,-2500,20\n" 5
+    ∷ answers "GP1,XA,B,12,230,55,1150,100,800,1500,1500,100,-2500,100\n" 5
+    ∷ answers "GP1,XA,B,12,230,50,1150,60001,800,1500,1500,100,-2500,100\n" 5
+    ∷ answers "GP1,XA,B,12,230,50,1150,100,800,1500,1500,100,-2500,100" 5
+    ∷ answers "GP1,XA,B,12,230,50,1150,100,800,1500,1500,100,-2500,100\n\n" 5
+    ∷ answers "GP1,AA,A,1,100,50,1001,20,1,20,1,20,-1,20" 1
+    ∷ answers "GP1,ZZ,D,4294967295,1000,60,1500,60000,999,60000,5000,60000,-5000,60000\n\n" 1
+    ∷ []
+
+abbrev pub LineBench : Type 0
+LineBench =
+    map (λ (c : LineCase). numberIn (readLine classes (bytes (c .line)))) lineCases ≡ map (λ (c : LineCase). c .number) lineCases

@@ -1,0 +1,6 @@
+pub mod Result
+pub mod Rules
+pub mod Line
+pub mod Places
+pub mod Theorems
+pub mod Bench

@@ -1,0 +1,152 @@
+-- When a profile is valid: the field rules and the class table, as data (document 01, "Profile line, package, shelf").
+-- Assumes nothing.
+use mathlib.Core.Bool.{Bool, true, false, _&&_, _||_}
+use mathlib.Core.List.{List, [], _∷_, _++_}
+use Prim.Native.Nat.{ℕ}
+use lib.Dec.{leb, eqb}
+use Rattle.outcome.specs.Answer.{bad-line, pick}
+use Rattle.profile.specs.declared.Limit.{Limit}
+use Rattle.profile.specs.declared.Limit.the-variants.{Share, Offset}
+use Rattle.profile.specs.declared.Trip.{Trip}
+use Rattle.profile.specs.declared.Profile.{Profile}
+use Rattle.profile.specs.declared.ClassFound.{ClassFound}
+use Rattle.profile.specs.declared.ClassFound.the-variants.{Letter, OutOfRange}
+use Rattle.profile.specs.Result.{Result, done, refused}
+
+-- ---- numbers and ranges, both ends included
+
+infix 90 _to_
+pub data Range : Type 0 where
+  _to_ : ℕ → ℕ → Range
+
+abbrev pub contains : Range → ℕ → Bool
+contains (low to high) n = leb low n && leb n high
+
+abbrev pub inOneOf : List Range → ℕ → Bool
+inOneOf [] n = false
+inOneOf (r ∷ rs) n = contains r n || inOneOf rs n
+
+-- ---- the fields after the class, in the order of the line
+
+-- what a field's number is: a share of the nominal voltage, an offset above or below the nominal frequency, or plain
+abbrev pub share : ℕ
+share = 0
+
+abbrev pub above : ℕ
+above = 1
+
+abbrev pub below : ℕ
+below = 2
+
+abbrev pub plain : ℕ
+plain = 3
+
+-- a field of a profile: its kind, and its number without a sign
+pub record Field : Type 0 where
+  pub kind : ℕ
+  pub size : ℕ
+
+abbrev pub kindOf : Limit → ℕ
+kindOf (Share n) = share
+kindOf (Offset under n) = pick under below above
+
+abbrev pub sizeOf : Limit → ℕ
+sizeOf (Share n) = n
+sizeOf (Offset under n) = n
+
+abbrev pub number : ℕ → Field
+number n = record { kind = plain; size = n }
+
+-- a trip point is two fields, its limit and its delay
+abbrev pub tripFields : Trip → List Field
+tripFields t = record { kind = kindOf (t .limit); size = sizeOf (t .limit) } ∷ number (t .delay) ∷ []
+
+unfoldable pub fieldsOf : Profile → List Field
+fieldsOf p =
+    number (p .serial)
+    ∷ number (p .volts)
+    ∷ number (p .hertz)
+    ∷ (tripFields (p .«over_voltage»)
+    ++ (tripFields (p .«under_voltage»)
+    ++ (tripFields (p .«over_frequency»)
+    ++ tripFields (p .«under_frequency»))))
+
+-- ---- the rules
+
+-- a field's kind, and the ranges of its number; an offset below nominal is given by its size, 1 to 5000 for −5000 to −1
+pub record Rule : Type 0 where
+  pub kind : ℕ
+  pub ranges : List Range
+
+-- a rule with one range
+abbrev pub one : ℕ → Range → Rule
+one kind range = record { kind = kind; ranges = range ∷ [] }
+
+abbrev pub delays : Range
+delays = 20 to 60000
+
+abbrev pub tripRules : ℕ → Range → List Rule
+tripRules kind limits = one kind limits ∷ one plain delays ∷ []
+
+-- serial, nominal volts, hertz; then over-voltage, under-voltage, over-frequency and under-frequency, each with its delay
+abbrev pub rules : List Rule
+rules =
+    one plain (1 to 4294967295)
+    ∷ one plain (100 to 1000)
+    ∷ record { kind = plain; ranges = 50 to 50 ∷ 60 to 60 ∷ [] }
+    ∷ (tripRules share (1001 to 1500)
+    ++ (tripRules share (1 to 999)
+    ++ (tripRules above (1 to 5000)
+    ++ tripRules below (1 to 5000))))
+
+abbrev pub fits : Rule → Field → Bool
+fits r f = eqb (f .kind) (r .kind) && inOneOf (r .ranges) (f .size)
+
+-- each field fits its rule, and there are as many fields as rules
+unfoldable pub obeys : List Rule → List Field → Bool
+obeys [] [] = true
+obeys [] (f ∷ fs) = false
+obeys (r ∷ rs) [] = false
+obeys (r ∷ rs) (f ∷ fs) = fits r f && obeys rs fs
+
+-- ---- the class
+
+pub record Class : Type 0 where
+  pub volts : Range
+  pub letter : ℕ
+
+abbrev pub class : ℕ → Range → Class
+class letter volts = record { volts = volts; letter = letter }
+
+-- A, B, C and D by nominal volts
+abbrev pub classes : List Class
+classes = class 65 (100 to 139) ∷ class 66 (140 to 259) ∷ class 67 (260 to 519) ∷ class 68 (520 to 1000) ∷ []
+
+-- the class of nominal volts under a table, or the refusal that a broken field rule gives
+abbrev pub classIn : List Class → ℕ → Result ℕ
+classIn [] n = refused bad-line
+classIn (c ∷ cs) n = pick (contains (c .volts) n) (done (c .letter)) (classIn cs n)
+
+-- what each case of `class_of`'s answer means
+abbrev pub classAnswer : ClassFound → Result ℕ
+classAnswer (Letter c) = done c
+classAnswer OutOfRange = refused bad-line
+
+-- a class was found, and is this letter
+abbrev pub isClass : Result ℕ → ℕ → Bool
+isClass (done c) letter = eqb letter c
+isClass (refused r) letter = false
+
+-- ---- a valid profile, under a class table
+
+-- A to Z
+abbrev pub letters : Range
+letters = 65 to 90
+
+-- two letters, fields that obey the rules, and the class of the volts
+unfoldable pub valid : List Class → Profile → Bool
+valid table p =
+    contains letters (p .country .first)
+    && (contains letters (p .country .second)
+    && (obeys rules (fieldsOf p)
+    && isClass (classIn table (p .volts)) (p .class)))

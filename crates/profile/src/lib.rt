@@ -1,0 +1,119 @@
+// Grid profiles and their lines: a profile is read only from the one line that means it, and written as that line.
+mod put;
+pub mod rules;
+mod scan;
+
+use put::put_line;
+use rules::valid;
+use scan::same;
+use scan::scan;
+ghost use mathlib.Core.Path.{_≡_};
+ghost use Rattle.profile.specs.Rules.{classes, classIn, classAnswer};
+ghost use Rattle.profile.specs.Line.{readLine, readAnswer, Writes};
+
+// The lengths of lines. A line is written into as many bytes as the longest has.
+pub const SHORTEST: usize = 42;
+
+pub const LONGEST: usize = 72;
+
+// Where a trip point trips: a voltage in thousandths of nominal, or millihertz above or below the nominal frequency.
+pub enum Limit {
+    Share(u32),
+    Offset { below: bool, millihertz: u32 },
+}
+
+// A limit, and the delay in milliseconds after which passing it trips.
+pub struct Trip {
+    pub limit: Limit,
+    pub delay: u32,
+}
+
+// The two letters of a country.
+pub struct Country {
+    pub first: u8,
+    pub second: u8,
+}
+
+// The class follows from the volts and is held all the same, so that a profile in which they disagree can be refused.
+pub struct Profile {
+    pub country: Country,
+    pub class: u8,
+    pub serial: u32,
+    pub volts: u32,
+    pub hertz: u32,
+    pub over_voltage: Trip,
+    pub under_voltage: Trip,
+    pub over_frequency: Trip,
+    pub under_frequency: Trip,
+}
+
+// The class letter of nominal volts, where they have one.
+pub enum ClassFound {
+    Letter(u8),
+    OutOfRange,
+}
+
+// A line is read as a profile; or it is not 42 to 72 bytes long; or it breaks a rule.
+pub enum ReadLine {
+    Read(Profile),
+    BadSize,
+    BadLine,
+}
+
+// A line is written, and is this long; or the buffer is not 72 bytes long; or the profile breaks a rule.
+pub enum WriteLine {
+    Written(usize),
+    BadSize,
+    BadProfile,
+}
+
+// The class by nominal volts.
+pub fn class_of(volts: u32) -> ClassFound
+    ensures { λ r. ⌜ classAnswer r ≡ classIn classes volts ⌝ }
+{
+    match volts {
+        100..=139 => ClassFound::Letter(b'A'),
+        140..=259 => ClassFound::Letter(b'B'),
+        260..=519 => ClassFound::Letter(b'C'),
+        520..=1000 => ClassFound::Letter(b'D'),
+        _ => ClassFound::OutOfRange,
+    }
+}
+
+// Takes the numbers from where a line has them, and reads the line only if it is the line of what was found.
+pub fn read_line(line: &[u8]) -> ReadLine
+    ensures { λ r. ⌜ readAnswer r ≡ readLine classes (now (line .entry)) ⌝ }
+{
+    if line.len() < SHORTEST {
+        return ReadLine::BadSize;
+    }
+    if line.len() > LONGEST {
+        return ReadLine::BadSize;
+    }
+    if !same(&line[..4], b"GP1,") {
+        return ReadLine::BadLine;
+    }
+    let p = scan(line);
+    if !valid(p) {
+        return ReadLine::BadLine;
+    }
+    let mut again = [0u8; LONGEST];
+    let end = put_line(p, &mut again);
+    if same(&again[..end], line) {
+        return ReadLine::Read(p);
+    }
+    ReadLine::BadLine
+}
+
+// Writes the line of a profile at the front of 72 lent bytes.
+pub fn write_line(p: Profile, out: &mut [u8]) -> WriteLine
+    ensures { λ r. ⌜ Writes classes p (now (out .entry)) r (now (out .exit)) ⌝ }
+{
+    if out.len() != LONGEST {
+        return WriteLine::BadSize;
+    }
+    if !valid(p) {
+        return WriteLine::BadProfile;
+    }
+    WriteLine::Written(put_line(p, out))
+}

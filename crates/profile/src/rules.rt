@@ -1,0 +1,142 @@
+// The field rules.
+use super::ClassFound;
+use super::Country;
+use super::Limit;
+use super::Profile;
+use super::Trip;
+use super::class_of;
+ghost use mathlib.Core.Path.{_≡_};
+ghost use mathlib.Core.Bool.{_&&_};
+ghost use mathlib.Core.List.{[], _∷_};
+ghost use lib.ListN.{take, drop};
+ghost use Rattle.profile.specs.Rules.{_to_, contains, kindOf, sizeOf, number, tripFields, fieldsOf, tripRules, rules, obeys, classes, classIn, isClass, letters};
+ghost use Rattle.profile.specs.Rules.{valid as validUnder};
+
+// What the number of a field is.
+pub const SHARE: u8 = 0;
+
+pub const ABOVE: u8 = 1;
+
+pub const BELOW: u8 = 2;
+
+pub const PLAIN: u8 = 3;
+
+pub fn kind_of(limit: Limit) -> u8
+    ensures { λ r. ⌜ r ≡ kindOf limit ⌝ }
+{
+    match limit {
+        Limit::Share(_) => SHARE,
+        Limit::Offset {
+            below,
+            millihertz: _,
+        } => { if below { BELOW } else { ABOVE } }
+    }
+}
+
+pub fn size_of(limit: Limit) -> u32
+    ensures { λ r. ⌜ r ≡ sizeOf limit ⌝ }
+{
+    match limit {
+        Limit::Share(thousandths) => thousandths,
+        Limit::Offset {
+            below: _,
+            millihertz,
+        } => millihertz,
+    }
+}
+
+fn within(n: u32, low: u32, high: u32) -> bool
+    ensures { λ r. ⌜ r ≡ contains (low to high) n ⌝ }
+{
+    low <= n && n <= high
+}
+
+pub fn is_letter(b: u8) -> bool
+    ensures { λ r. ⌜ r ≡ contains letters b ⌝ }
+{
+    b >= b'A' && b <= b'Z'
+}
+
+// Both letters of a country.
+fn country_obeys(c: Country) -> bool
+    ensures { λ r. ⌜ r ≡ (contains letters (c .first) && contains letters (c .second)) ⌝ }
+{
+    if !is_letter(c.first) {
+        return false;
+    }
+    is_letter(c.second)
+}
+
+// Serial, nominal volts and hertz.
+fn ratings_obey(serial: u32, volts: u32, hertz: u32) -> bool
+    ensures { λ r. ⌜ r ≡ obeys (take 3 rules) (number serial ∷ number volts ∷ number hertz ∷ []) ⌝ }
+{
+    if !within(serial, 1, 4294967295) {
+        return false;
+    }
+    if !within(volts, 100, 1000) {
+        return false;
+    }
+    hertz == 50 || hertz == 60
+}
+
+// A trip point of a kind, with its limit in a range.
+fn trip_obeys(t: Trip, kind: u8, low: u32, high: u32) -> bool
+    ensures { λ r. ⌜ r ≡ obeys (tripRules kind (low to high)) (tripFields t) ⌝ }
+{
+    let limit = t.limit;
+    if kind_of(limit) != kind {
+        return false;
+    }
+    if !within(size_of(limit), low, high) {
+        return false;
+    }
+    within(t.delay, 20, 60000)
+}
+
+// The four trip points.
+fn trips_obey(p: Profile) -> bool
+    ensures { λ r. ⌜ r ≡ obeys (drop 3 rules) (drop 3 (fieldsOf p)) ⌝ }
+{
+    let over_voltage = p.over_voltage;
+    if !trip_obeys(over_voltage, SHARE, 1001, 1500) {
+        return false;
+    }
+    let under_voltage = p.under_voltage;
+    if !trip_obeys(under_voltage, SHARE, 1, 999) {
+        return false;
+    }
+    let over_frequency = p.over_frequency;
+    if !trip_obeys(over_frequency, ABOVE, 1, 5000) {
+        return false;
+    }
+    let under_frequency = p.under_frequency;
+    trip_obeys(under_frequency, BELOW, 1, 5000)
+}
+
+// Whether a class is that of the volts.
+fn class_agrees(volts: u32, class: u8) -> bool
+    ensures { λ r. ⌜ r ≡ isClass (classIn classes volts) class ⌝ }
+{
+    match class_of(volts) {
+        ClassFound::Letter(letter) => class == letter,
+        ClassFound::OutOfRange => false,
+    }
+}
+
+// Whether a profile keeps every field rule, its class among them.
+pub fn valid(p: Profile) -> bool
+    ensures { λ r. ⌜ r ≡ validUnder classes p ⌝ }
+{
+    let country = p.country;
+    if !country_obeys(country) {
+        return false;
+    }
+    if !ratings_obey(p.serial, p.volts, p.hertz) {
+        return false;
+    }
+    if !trips_obey(p) {
+        return false;
+    }
+    class_agrees(p.volts, p.class)
+}

@@ -1,0 +1,8 @@
+pub mod Fields
+pub mod Kept
+pub mod Draws
+pub mod Copied
+pub mod Shuffling
+pub mod Steps
+pub mod Answered
+pub mod Cases

@@ -1,0 +1,86 @@
+-- `entry::sample_into`: each return is the answer of the first test that fails. Assumes nothing.
+use mathlib.Core.Path.{refl}
+use borrow.Author.Needs.{needs}
+use borrow.Author.Tests.{eq-eqb, ne-eqb}
+use lib.ListN.{length}
+use Rattle.outcome.proofs.Checks.{done, refused}
+use Rattle.sampling.specs.Sampling.{sampleChecks}
+use Rattle.sampling.proofs.Draws.{sampled-few, sampled-many, sampled-copy}
+use Rattle.sampling.proofs.entry.sample_into.Statement.{statement}
+use Rattle.sampling.proofs.entry.sample_into.Tie as tie
+
+returns : tie.Need-returns
+unfolding sampleChecks
+returns c =
+    let a = c .before .before .before .before .args in
+    refused 0 (rw (ne-eqb (length (a .block .now)) (a .bytes) (c .if1 .taken))) refl
+
+returns-2 : tie.Need-returns-2
+unfolding sampleChecks
+returns-2 c =
+    let a = c .before .before .before .before .before .args in
+    refused 0
+    (rw (
+      eq-eqb (length (a .block .now)) (a .bytes) (c .before .if1 .left),
+      ne-eqb (length (a .out .now)) (a .n) (c .if2 .taken),
+    ))
+    refl
+
+sample-requires : tie.Need-sample-requires
+sample-requires c κs = search needs
+
+same-length : tie.Need-same-length
+same-length c = search needs
+
+returns-3 : tie.Need-returns-3
+unfolding sampleChecks
+returns-3 c =
+    let drawn = c .before .before .before .sample in
+    let sized = c .before .before .before .before .before in
+    let a = sized .before .before .before .before .before .args in
+    refused 1
+    (rw (
+      eq-eqb (length (a .block .now)) (a .bytes) (sized .before .if1 .left),
+      eq-eqb (length (a .out .now)) (a .n) (sized .if2 .left),
+      sampled-few (drawn .ensures) (c .if3 .taken),
+    ))
+    refl
+
+copy-requires : tie.Need-copy-requires
+copy-requires c κs = search needs
+
+same-length-2 : tie.Need-same-length-2
+same-length-2 c = search needs
+
+same-length-3 : tie.Need-same-length-3
+same-length-3 c = search needs
+
+returns-4 : tie.Need-returns-4
+unfolding sampleChecks
+returns-4 c =
+    let copied = c .before .before .copy in
+    let tested = c .before .before .before .before .before in
+    let drawn = tested .before .before .before .sample in
+    let sized = tested .before .before .before .before .before in
+    let a = sized .before .before .before .before .before .args in
+    done
+    (rw (
+      eq-eqb (length (a .block .now)) (a .bytes) (sized .before .if1 .left),
+      eq-eqb (length (a .out .now)) (a .n) (sized .if2 .left),
+      sampled-many (drawn .ensures) (tested .if3 .left),
+    ))
+    (sampled-copy (drawn .ensures) (length (a .out .now)) (sized .if2 .left) (tested .if3 .left) (copied .ensures))
+
+pub sample-into-spec : {M : Type 1} → statement M
+sample-into-spec =
+    tie.close
+    (tie.spec
+    returns
+    returns-2
+    sample-requires
+    same-length
+    returns-3
+    copy-requires
+    same-length-2
+    same-length-3
+    returns-4)

@@ -1,0 +1,28 @@
+-- What the functions over lent scratch leave there.
+-- Assumes nothing.
+use mathlib.Core.Path.{_≡_}
+use mathlib.Core.Bool.{Bool, true}
+use mathlib.Core.List.{List}
+use Prim.Native.Nat.{ℕ, _+_, _-_, _%_, _≤_}
+use lib.Dec.{ltb, leb}
+use lib.ListN.{take}
+use Rattle.outcome.specs.Answer.{pick}
+use Rattle.sampling.specs.Sampling.{yield, sample, enough}
+use Rattle.sampling.specs.Shuffle.{limit, exchange, shuffle, shuffles}
+
+-- A draw of n into scratch got some: n or more exactly where the block yields enough, and then the first n are the draw.
+pub record Sampled (w m d n : ℕ) (block : List ℕ) (got : ℕ) (scratch : List ℕ) : Type 0 where
+  pub suffices : leb n got ≡ enough n (yield w m d block)
+  pub content : n ≤ got → take n scratch ≡ sample w m d n block
+
+-- A shuffle in place says whether the block sufficed, and where it did the positions are the second challenge.
+pub record Shuffled (t w : ℕ) (block : List ℕ) (ok : Bool) (positions : List ℕ) : Type 0 where
+  pub suffices : ok ≡ shuffles t block
+  pub content : ok ≡ true → positions ≡ shuffle t w block
+
+-- what field r makes of position j and of the positions: dropped, nothing; else an exchange and the next lower position
+abbrev pub nextPosition : ℕ → ℕ → ℕ
+nextPosition j r = pick (ltb r (limit (j + 1))) (j - 1) j
+
+abbrev pub nextPositions : List ℕ → ℕ → ℕ → List ℕ
+nextPositions ps j r = pick (ltb r (limit (j + 1))) (exchange ps j (r % (j + 1))) ps

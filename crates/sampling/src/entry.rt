@@ -1,0 +1,67 @@
+// The entries of the draws, for every size: the sizes are tested, the draw is made in scratch, and only a draw that is
+// enough is copied to what was lent.
+ghost use mathlib.Core.Path.{_≡_};
+ghost use Prim.Native.Nat.{_+_, _^_, _<_, _≤_};
+ghost use lib.ListN.{length, take};
+ghost use Rattle.sampling.specs.Entry.{AnswersSample, AnswersShuffle};
+
+// The front of `source`, as long as `out`.
+fn copy(out: &mut [u8], source: &[u8])
+    requires { ⌜ length (now out) ≤ length (now source) ⌝ }
+    ensures { λ r. ⌜ now (out .exit) ≡ take (length (now (out .entry))) (now (source .entry)) ⌝ }
+{
+    let mut i = 0;
+    while i < out.len() {
+        out[i] = source[i];
+        i += 1;
+    }
+}
+
+// n fields of width w below m, each plus d, from a block of `bytes` bytes. Scratch has room for the rest of a group.
+pub fn sample_into(
+    out: &mut [u8],
+    scratch: &mut [u8],
+    block: &[u8],
+    bytes: usize,
+    w: usize,
+    m: u8,
+    d: u8,
+    n: usize,
+) -> u8
+    requires { ⌜ (n + 8 ≤ length (now scratch)) × (0 < w) × (w ≤ 8) × (2 ^ w + d ≤ 256) ⌝ }
+    ensures { λ r.
+        ⌜ AnswersSample w m d n bytes (now (block .entry)) (now (out .entry)) r (now (out .exit)) ⌝ }
+{
+    if block.len() != bytes {
+        return 1;
+    }
+    if out.len() != n {
+        return 1;
+    }
+    let got = crate::draw::sample(scratch, block, w, m, d, n);
+    if got < n {
+        return 2;
+    }
+    copy(out, scratch);
+    0
+}
+
+// The second challenge at as many positions as scratch has, w of them ones, from a block of `bytes` bytes.
+pub fn shuffle_into(out: &mut [u8], scratch: &mut [u8], block: &[u8], bytes: usize, w: usize) -> u8
+    requires { ⌜ (w ≤ length (now scratch)) × (0 < length (now scratch)) ⌝ }
+    ensures { λ r.
+        ⌜ AnswersShuffle (length (now (scratch .entry))) w bytes
+        (now (block .entry)) (now (out .entry)) r (now (out .exit)) ⌝ }
+{
+    if block.len() != bytes {
+        return 1;
+    }
+    if out.len() != scratch.len() {
+        return 1;
+    }
+    if crate::shuffle::shuffle(scratch, block, w) {
+        copy(out, scratch);
+        return 0;
+    }
+    2
+}

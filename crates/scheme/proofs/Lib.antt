@@ -1,0 +1,13 @@
+pub mod PartsStrings
+pub mod PartsPacked
+pub mod Keyed
+pub mod AcceptedRound
+pub mod AcceptedRounds
+pub mod AcceptedPieces
+pub mod AcceptedKey
+pub mod Accepted
+pub mod OpensStrings
+pub mod OpensAnswers
+pub mod Opens
+pub mod OnePlace
+pub mod Sizes

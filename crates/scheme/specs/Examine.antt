@@ -1,0 +1,47 @@
+-- The round examiner: one round of the verifier, given its challenges and commitments.
+-- i, β and the challenge are numbers that may be anything; under a challenge other than 0 and 1 the reply's size
+-- is not looked at.
+-- Assumes nothing.
+use mathlib.Core.Bool.{Bool, true}
+use mathlib.Core.List.{List, [], _∷_, _++_}
+use Prim.Native.Nat.{ℕ, _+_}
+use lib.Dec.{eqb, leb}
+use lib.ListN.{length}
+use Rattle.outcome.specs.Answer.{Check, _unless_, bad-size, short, bad-field, differs, pick, firstRefusal}
+use Rattle.outcome.specs.Lists.{same}
+use Rattle.parameters.specs.declared.Params.{Params}
+use Rattle.scheme.specs.Strings.{digest, string2}
+use Rattle.scheme.specs.Key.{keySize, seedOf, syndromeOf, keyFields, matrix, matrixDrawn}
+use Rattle.scheme.specs.Round.{replySize, replyChecks, replyString, replyResponse}
+
+module _ (p : Params) where
+  abbrev pub replySized : ℕ → List ℕ → Bool
+  replySized b reply = pick (leb b 1) (eqb (length reply) (replySize p b)) true
+
+  unfoldable pub examineChecks : List ℕ → List ℕ → ℕ → List ℕ → List ℕ → ℕ → List ℕ → ℕ → List ℕ → List Check
+  examineChecks key salt i c0 c1 β h b reply =
+      bad-size unless eqb (length key) (keySize p) ∷
+      bad-size unless eqb (length salt) (p .digest) ∷
+      bad-size unless eqb (length c0) (p .digest) ∷
+      bad-size unless eqb (length c1) (p .digest) ∷
+      bad-size unless eqb (length h) (p .digest) ∷
+      bad-size unless replySized b reply ∷
+      [] ++
+      keyFields p key ++
+      (bad-field unless leb 1 i ∷
+      bad-field unless leb i (p .t) ∷
+      bad-field unless leb 1 β ∷
+      bad-field unless leb β 126 ∷
+      bad-field unless leb b 1 ∷
+      short unless matrixDrawn p (seedOf p key) ∷
+      []) ++
+      replyChecks p b reply salt i ++
+      (differs unless
+      same (pick (eqb b 1) c1 c0)
+      (digest p (replyString p (matrix p (seedOf p key)) (syndromeOf p key) b β reply salt i)) ∷
+      differs unless same h (digest p (string2 (replyResponse p b β reply salt i))) ∷
+      [])
+
+  -- the round examiner's answer
+  unfoldable pub examine : List ℕ → List ℕ → ℕ → List ℕ → List ℕ → ℕ → List ℕ → ℕ → List ℕ → ℕ
+  examine key salt i c0 c1 β h b reply = firstRefusal (examineChecks key salt i c0 c1 β h b reply)

@@ -1,0 +1,7 @@
+pub mod Strings
+pub mod Key
+pub mod Round
+pub mod Sign
+pub mod Verify
+pub mod Examine
+pub mod Duty

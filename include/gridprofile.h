@@ -1,0 +1,108 @@
+/* Signed grid profiles: the C interface of the proved library.
+ *
+ * A slice is a pointer and then its length in bytes. Slices given to one call must not overlap, and
+ * a pointer must not be null unless its length is 0: the library's proofs assume both. Every
+ * function but gridprofile_shake128 answers 0, or the number of the first refusal that applies.
+ * After a refusal every lent byte is as it was. No function keeps a pointer, allocates memory or
+ * has any state of its own. */
+#ifndef GRIDPROFILE_H
+#define GRIDPROFILE_H
+
+#include <stddef.h>
+#include <stdint.h>
+
+#ifdef __cplusplus
+extern "C" {
+#endif
+
+/* Answers. */
+#define GRIDPROFILE_DONE 0
+#define GRIDPROFILE_BAD_SIZE 1        /* a buffer, message, line or package of a wrong length */
+#define GRIDPROFILE_SHORT_DRAW 2      /* a block yields too few numbers */
+#define GRIDPROFILE_BAD_FIELD 3       /* a field or number out of range, or a spare bit that is 1 */
+#define GRIDPROFILE_MISMATCH 4        /* a recomputed digest differs */
+#define GRIDPROFILE_BAD_PROFILE 5     /* a line or profile breaks a field rule */
+#define GRIDPROFILE_OTHER_DEVICE 6    /* not for this device's country and class */
+#define GRIDPROFILE_OLD_SERIAL 7      /* serial not greater than the stored one */
+#define GRIDPROFILE_STORE_FULL 8      /* no room for another country and class */
+#define GRIDPROFILE_NOT_STORED 9      /* nothing stored under this country and class */
+#define GRIDPROFILE_BAD_DEVICE 10     /* a device country or class that does not exist */
+
+/* Numbers of category 1. */
+#define GRIDPROFILE_PLACES 127           /* places of a vector */
+#define GRIDPROFILE_MATRIX_VALUES 3876   /* values of V, 51 rows of 76 */
+#define GRIDPROFILE_ROUNDS 163           /* rounds of a signature */
+#define GRIDPROFILE_ONES 85              /* rounds whose second challenge is 1 */
+
+/* Blocks that numbers are drawn from, in bytes. */
+#define GRIDPROFILE_MATRIX_BLOCK_BYTES 3500
+#define GRIDPROFILE_EXPONENTS_BLOCK_BYTES 96
+#define GRIDPROFILE_MASK_VALUES_BLOCK_BYTES 140
+#define GRIDPROFILE_FIRST_CHALLENGES_BLOCK_BYTES 196
+#define GRIDPROFILE_SECOND_CHALLENGE_BLOCK_BYTES 400
+
+/* Bytes that `count` packed values (7 bits each) or exponents (3 bits each) take. */
+#define GRIDPROFILE_PACKED_VALUES_BYTES(count) ((count) - (count) / 8)
+#define GRIDPROFILE_PACKED_EXPONENTS_BYTES(count) ((count) / 8 * 3 + ((count) % 8 * 3 + 7) / 8)
+
+/* SHAKE128 (FIPS 202) of the input, as many bytes as `out` has. Input and output may have any
+ * length, 0 too. It never refuses. */
+void gridprofile_shake128(const uint8_t *input, size_t input_len, uint8_t *out, size_t out_len);
+
+/* Packs any number of values, a byte each, 7 bits for each from the lowest bit of the first byte
+ * upward. Refuses with 1 where packed_len is not GRIDPROFILE_PACKED_VALUES_BYTES(values_len), then
+ * with 3 where a value is over 126. */
+uint8_t gridprofile_pack_values(const uint8_t *values, size_t values_len, uint8_t *packed,
+                                size_t packed_len);
+
+/* Unpacks values_len values. Refuses with 1 where packed_len is not
+ * GRIDPROFILE_PACKED_VALUES_BYTES(values_len), then with 3 where a field is 127 or a spare bit of
+ * the last byte is 1. */
+uint8_t gridprofile_unpack_values(const uint8_t *packed, size_t packed_len, uint8_t *values,
+                                  size_t values_len);
+
+/* Packs any number of exponents, a byte each, 3 bits for each. Refuses with 1 where packed_len is
+ * not GRIDPROFILE_PACKED_EXPONENTS_BYTES(exponents_len), then with 3 where an exponent is over 6. */
+uint8_t gridprofile_pack_exponents(const uint8_t *exponents, size_t exponents_len, uint8_t *packed,
+                                   size_t packed_len);
+
+/* Unpacks exponents_len exponents. Refuses with 1 where packed_len is not
+ * GRIDPROFILE_PACKED_EXPONENTS_BYTES(exponents_len), then with 3 where a field is 7 or a spare bit
+ * of the last byte is 1. */
+uint8_t gridprofile_unpack_exponents(const uint8_t *packed, size_t packed_len, uint8_t *exponents,
+                                     size_t exponents_len);
+
+/* Draws the matrix V, GRIDPROFILE_MATRIX_VALUES values row by row, from a block of
+ * GRIDPROFILE_MATRIX_BLOCK_BYTES: its 7-bit fields in order, 127 dropped. Refuses with 1 where
+ * either length is another, then with 2 where the block yields too few. */
+uint8_t gridprofile_sample_matrix(const uint8_t *block, size_t block_len, uint8_t *out,
+                                  size_t out_len);
+
+/* Draws GRIDPROFILE_PLACES exponents from a block of GRIDPROFILE_EXPONENTS_BLOCK_BYTES: its 3-bit
+ * fields in order, 7 dropped. Refuses as gridprofile_sample_matrix does. */
+uint8_t gridprofile_sample_exponents(const uint8_t *block, size_t block_len, uint8_t *out,
+                                     size_t out_len);
+
+/* Draws GRIDPROFILE_PLACES mask values from a block of GRIDPROFILE_MASK_VALUES_BLOCK_BYTES: its
+ * 7-bit fields in order, 127 dropped. Refuses as gridprofile_sample_matrix does. */
+uint8_t gridprofile_sample_mask_values(const uint8_t *block, size_t block_len, uint8_t *out,
+                                       size_t out_len);
+
+/* Draws GRIDPROFILE_ROUNDS first challenges, 1 to 126, from a block of
+ * GRIDPROFILE_FIRST_CHALLENGES_BLOCK_BYTES: its 7-bit fields in order, 126 and 127 dropped, each
+ * kept one plus 1. Refuses as gridprofile_sample_matrix does. */
+uint8_t gridprofile_sample_first_challenges(const uint8_t *block, size_t block_len, uint8_t *out,
+                                            size_t out_len);
+
+/* Draws the second challenge, 0 or 1 for each of GRIDPROFILE_ROUNDS rounds and GRIDPROFILE_ONES
+ * ones among them, by a shuffle with the 16-bit fields of a block of
+ * GRIDPROFILE_SECOND_CHALLENGE_BLOCK_BYTES. Byte j belongs to round j + 1. Refuses as
+ * gridprofile_sample_matrix does. */
+uint8_t gridprofile_sample_second_challenge(const uint8_t *block, size_t block_len, uint8_t *out,
+                                            size_t out_len);
+
+#ifdef __cplusplus
+}
+#endif
+
+#endif

@@ -1,0 +1,92 @@
+/* Calls every entry from C, on worked examples. It prints one line for each call, and ends with
+ * status 1 where one of them is not as it should be. */
+#include "gridprofile.h"
+
+#include <stdio.h>
+#include <string.h>
+
+static int failed = 0;
+
+static void expect(const char *name, int answer, int wanted, const uint8_t *got,
+                   const uint8_t *bytes, size_t len)
+{
+    int ok = answer == wanted && memcmp(got, bytes, len) == 0;
+    printf("%s %s\n", ok ? "ok" : "FAILED", name);
+    failed |= !ok;
+}
+
+static void packing(void)
+{
+    const uint8_t values[3] = {1, 2, 3}, packed_values[3] = {0x01, 0xC1, 0x00};
+    const uint8_t exponents[3] = {6, 5, 1}, packed_exponents[2] = {0x6E, 0x00};
+    const uint8_t bad[1] = {0x7F}, kept[1] = {9};
+    uint8_t packed[GRIDPROFILE_PACKED_VALUES_BYTES(3)] = {0};
+    uint8_t narrow[GRIDPROFILE_PACKED_EXPONENTS_BYTES(3)] = {0};
+    uint8_t out[3] = {0};
+    uint8_t lent[1] = {9};
+    expect("gridprofile_pack_values", gridprofile_pack_values(values, 3, packed, sizeof packed), 0,
+           packed, packed_values, 3);
+    expect("gridprofile_unpack_values", gridprofile_unpack_values(packed, sizeof packed, out, 3), 0,
+           out, values, 3);
+    expect("gridprofile_pack_exponents",
+           gridprofile_pack_exponents(exponents, 3, narrow, sizeof narrow), 0, narrow,
+           packed_exponents, 2);
+    expect("gridprofile_unpack_exponents",
+           gridprofile_unpack_exponents(narrow, sizeof narrow, out, 3), 0, out, exponents, 3);
+    expect("gridprofile_unpack_values of a bad field", gridprofile_unpack_values(bad, 1, lent, 1),
+           GRIDPROFILE_BAD_FIELD, lent, kept, 1);
+    expect("gridprofile_pack_values of nothing", gridprofile_pack_values(NULL, 0, NULL, 0), 0, kept,
+           kept, 1);
+}
+
+static void hashing(void)
+{
+    const uint8_t wanted[8] = {0x7F, 0x9C, 0x2B, 0xA4, 0xE8, 0x8F, 0x82, 0x7D};
+    uint8_t out[8] = {0};
+    gridprofile_shake128(NULL, 0, out, sizeof out);
+    expect("gridprofile_shake128", 0, 0, out, wanted, sizeof out);
+}
+
+typedef uint8_t (*sample)(const uint8_t *, size_t, uint8_t *, size_t);
+
+/* A block of zeros yields `first` everywhere; a shorter output is refused and not touched. */
+static void sampling(const char *name, sample draw, size_t block_len, size_t count, uint8_t first)
+{
+    static const uint8_t block[GRIDPROFILE_MATRIX_BLOCK_BYTES];
+    static uint8_t out[GRIDPROFILE_MATRIX_VALUES], old[GRIDPROFILE_MATRIX_VALUES];
+    memset(out, 0xA5, sizeof out);
+    memset(old, 0xA5, sizeof old);
+    expect(name, draw(block, block_len, out, count - 1), GRIDPROFILE_BAD_SIZE, out, old, sizeof out);
+    memset(old, first, count);
+    expect(name, draw(block, block_len, out, count), GRIDPROFILE_DONE, out, old, sizeof out);
+}
+
+/* Fields of 0 exchange each position with the first one: in the end each position holds what stood
+ * one above it, and the last holds what stood first. */
+static void second_challenge(void)
+{
+    static const uint8_t block[GRIDPROFILE_SECOND_CHALLENGE_BLOCK_BYTES];
+    uint8_t out[GRIDPROFILE_ROUNDS], wanted[GRIDPROFILE_ROUNDS];
+    for (int j = 0; j < GRIDPROFILE_ROUNDS; j++) {
+        wanted[j] = (uint8_t)(j < GRIDPROFILE_ONES - 1 || j == GRIDPROFILE_ROUNDS - 1);
+    }
+    expect("gridprofile_sample_second_challenge",
+           gridprofile_sample_second_challenge(block, sizeof block, out, sizeof out), 0, out,
+           wanted, sizeof out);
+}
+
+int main(void)
+{
+    packing();
+    hashing();
+    sampling("gridprofile_sample_matrix", gridprofile_sample_matrix, GRIDPROFILE_MATRIX_BLOCK_BYTES,
+             GRIDPROFILE_MATRIX_VALUES, 0);
+    sampling("gridprofile_sample_exponents", gridprofile_sample_exponents,
+             GRIDPROFILE_EXPONENTS_BLOCK_BYTES, GRIDPROFILE_PLACES, 0);
+    sampling("gridprofile_sample_mask_values", gridprofile_sample_mask_values,
+             GRIDPROFILE_MASK_VALUES_BLOCK_BYTES, GRIDPROFILE_PLACES, 0);
+    sampling("gridprofile_sample_first_challenges", gridprofile_sample_first_challenges,
+             GRIDPROFILE_FIRST_CHALLENGES_BLOCK_BYTES, GRIDPROFILE_ROUNDS, 1);
+    second_challenge();
+    return failed;
+}

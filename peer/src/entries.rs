@@ -1,0 +1,61 @@
+//! The entries of category 1 as the library offers them: bytes in, bytes out, a number as the answer.
+
+use crate::bits::{pack, packed_size, unpack, Kind, EXPONENT, VALUE};
+use crate::draws::{sample, shuffle, Draw, EXPONENTS, FIRST_CHALLENGES, VALUES};
+use crate::keccak::{shake, SHAKE128_RATE};
+use crate::refusal::{answer, demand, BAD_SIZE};
+use crate::sizes::{Sizes, CATEGORY_1};
+
+fn pack_entry(kind: Kind, numbers: &[u8], packed: &mut [u8]) -> u8 {
+    let sized = demand(packed.len() == packed_size(kind.width, numbers.len()), BAD_SIZE);
+    answer(sized.and_then(|()| pack(kind, numbers)), packed)
+}
+
+pub fn pack_values(values: &[u8], packed: &mut [u8]) -> u8 {
+    pack_entry(VALUE, values, packed)
+}
+
+pub fn unpack_values(packed: &[u8], values: &mut [u8]) -> u8 {
+    answer(unpack(VALUE, packed, values.len()), values)
+}
+
+pub fn pack_exponents(exponents: &[u8], packed: &mut [u8]) -> u8 {
+    pack_entry(EXPONENT, exponents, packed)
+}
+
+pub fn unpack_exponents(packed: &[u8], exponents: &mut [u8]) -> u8 {
+    answer(unpack(EXPONENT, packed, exponents.len()), exponents)
+}
+
+fn sample_entry(draw: Draw, block_size: usize, count: usize, block: &[u8], out: &mut [u8]) -> u8 {
+    let sized = demand(block.len() == block_size && out.len() == count, BAD_SIZE);
+    answer(sized.and_then(|()| sample(draw, block, count)), out)
+}
+
+const SIZES: Sizes = CATEGORY_1;
+
+pub fn sample_matrix(block: &[u8], out: &mut [u8]) -> u8 {
+    sample_entry(VALUES, SIZES.matrix_block, SIZES.matrix(), block, out)
+}
+
+pub fn sample_exponents(block: &[u8], out: &mut [u8]) -> u8 {
+    sample_entry(EXPONENTS, SIZES.exponents_block, SIZES.n, block, out)
+}
+
+pub fn sample_mask_values(block: &[u8], out: &mut [u8]) -> u8 {
+    sample_entry(VALUES, SIZES.mask_values_block, SIZES.n, block, out)
+}
+
+pub fn sample_first_challenges(block: &[u8], out: &mut [u8]) -> u8 {
+    sample_entry(FIRST_CHALLENGES, SIZES.first_challenges_block, SIZES.t, block, out)
+}
+
+pub fn sample_second_challenge(block: &[u8], out: &mut [u8]) -> u8 {
+    let sized = demand(block.len() == SIZES.second_challenge_block && out.len() == SIZES.t, BAD_SIZE);
+    answer(sized.and_then(|()| shuffle(block, SIZES.t, SIZES.w)), out)
+}
+
+/// Never refuses.
+pub fn shake128(input: &[u8], out: &mut [u8]) {
+    out.copy_from_slice(&shake(SHAKE128_RATE, input, out.len()));
+}

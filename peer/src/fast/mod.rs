@@ -1,0 +1,8 @@
+//! The same work done the usual fast way: accumulators for bits, whole words, no allocation. The
+//! benchmark measures the proved library against these; the tests hold them to the plain modules.
+
+pub mod keccak;
+pub mod packing;
+pub mod sampling;
+pub mod scheme;
+mod vectors;

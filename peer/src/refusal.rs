@@ -1,0 +1,29 @@
+//! The numbers that an entry answers. 0 is "done"; the bytes lent to a refusing entry stay as they were.
+
+/// The number of the refusal that applies first.
+pub type Refusal = u8;
+
+pub const BAD_SIZE: Refusal = 1;
+pub const SHORT_DRAW: Refusal = 2;
+pub const BAD_FIELD: Refusal = 3;
+pub const MISMATCH: Refusal = 4;
+
+/// Refuses by `refusal` unless `ok`.
+pub fn demand(ok: bool, refusal: Refusal) -> Result<(), Refusal> {
+    if ok {
+        Ok(())
+    } else {
+        Err(refusal)
+    }
+}
+
+/// Answers for an entry that makes `out`: stores what was made, or leaves it as it was.
+pub fn answer(made: Result<Vec<u8>, Refusal>, out: &mut [u8]) -> u8 {
+    match made {
+        Ok(bytes) => {
+            out.copy_from_slice(&bytes);
+            0
+        }
+        Err(refusal) => refusal,
+    }
+}
