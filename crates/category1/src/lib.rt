@@ -1,7 +1,10 @@
 // Category 1: every entry at its fixed sizes, over arrays on the stack that have these sizes (a draw's has room for
 // the rest of its last group).
 ghost use Prim.Native.Nat.{_-_, _*_};
+ghost use lib.ListN.{length};
+ghost use Rattle.outcome.specs.Answer.{Answers};
 ghost use Rattle.parameters.specs.Categories.{category1};
+ghost use Rattle.scheme.specs.Key.{makeKeyChecks, publicKey};
 ghost use Rattle.sampling.specs.Entry.{AnswersSample, AnswersShuffle};
 
 // V: 51 rows of 76 values, row by row.
@@ -52,4 +55,13 @@ pub fn sample_second_challenge(block: &[u8], out: &mut [u8]) -> u8
 {
     let mut scratch = [0u8; 163];
     sampling::entry::shuffle_into(out, &mut scratch, block, 400, 85)
+}
+
+// The public key of a private seed.
+pub fn make_key(private: &[u8], key: &mut [u8]) -> u8
+    ensures { λ r. ⌜ Answers (makeKeyChecks category1 (now (private .entry)) (length (now (key .entry)))) (publicKey category1 (now (private .entry))) (now (key .entry)) r (now (key .exit)) ⌝ }
+{
+    let mut block = [0u8; 3500];
+    let mut vs = [0u8; 3884];
+    keygen::make_key(parameters::category1(), private, &mut block, &mut vs, key)
 }

@@ -7,6 +7,7 @@ ghost use Rattle.outcome.specs.Answer.{Answers};
 ghost use Rattle.shake.specs.Shake.{shake128};
 ghost use Rattle.packing.specs.Packing.{pack, unpack, packChecks, unpackChecks};
 ghost use Rattle.parameters.specs.Categories.{category1};
+ghost use Rattle.scheme.specs.Key.{makeKeyChecks, publicKey};
 ghost use Rattle.sampling.specs.Entry.{AnswersSample, AnswersShuffle};
 
 #[no_mangle]
@@ -77,4 +78,11 @@ pub extern "C" fn gridprofile_sample_second_challenge(block: &[u8], out: &mut [u
     ensures { λ r. ⌜ AnswersShuffle (category1 .t) (category1 .w) (category1 .second) (now (block .entry)) (now (out .entry)) r (now (out .exit)) ⌝ }
 {
     category1::sample_second_challenge(block, out)
+}
+
+#[no_mangle]
+pub extern "C" fn gridprofile_make_key(private: &[u8], key: &mut [u8]) -> u8
+    ensures { λ r. ⌜ Answers (makeKeyChecks category1 (now (private .entry)) (length (now (key .entry)))) (publicKey category1 (now (private .entry))) (now (key .entry)) r (now (key .exit)) ⌝ }
+{
+    category1::make_key(private, key)
 }

@@ -1,4 +1,5 @@
 // Hashing tagged strings that are given in parts: the tag byte, then the parts in order. No string is put together.
+// Up to four parts go in without a sponge being handed on, which would be copied.
 use shake::Sponge;
 ghost use mathlib.Core.Path.{_≡_};
 ghost use mathlib.Core.List.{List, [], _∷_, _++_};
@@ -18,31 +19,31 @@ pub fn hash1(rate: usize, tag: u8, a: &[u8], out: &mut [u8])
     requires { ⌜ Rate rate ⌝ }
     ensures { λ r. ⌜ now (out .exit) ≡ shake rate (tag ∷ now (a .entry)) (length (now (out .entry))) ⌝ }
 {
-    shake::squeeze(shake::absorb(tagged(rate, tag), a), out);
+    let none = [0u8; 0];
+    shake::hash(rate, tag, a, &none, &none, &none, out);
 }
 
 pub fn hash2(rate: usize, tag: u8, a: &[u8], b: &[u8], out: &mut [u8])
     requires { ⌜ Rate rate ⌝ }
     ensures { λ r. ⌜ now (out .exit) ≡ shake rate (tag ∷ now (a .entry) ++ now (b .entry)) (length (now (out .entry))) ⌝ }
 {
-    let s = shake::absorb(tagged(rate, tag), a);
-    shake::squeeze(shake::absorb(s, b), out);
+    let none = [0u8; 0];
+    shake::hash(rate, tag, a, b, &none, &none, out);
 }
 
 pub fn hash3(rate: usize, tag: u8, a: &[u8], b: &[u8], c: &[u8], out: &mut [u8])
     requires { ⌜ Rate rate ⌝ }
     ensures { λ r. ⌜ now (out .exit) ≡ shake rate (tag ∷ now (a .entry) ++ now (b .entry) ++ now (c .entry)) (length (now (out .entry))) ⌝ }
 {
-    let s = shake::absorb(tagged(rate, tag), a);
-    shake::squeeze(shake::absorb(shake::absorb(s, b), c), out);
+    let none = [0u8; 0];
+    shake::hash(rate, tag, a, b, c, &none, out);
 }
 
 pub fn hash4(rate: usize, tag: u8, a: &[u8], b: &[u8], c: &[u8], d: &[u8], out: &mut [u8])
     requires { ⌜ Rate rate ⌝ }
     ensures { λ r. ⌜ now (out .exit) ≡ shake rate (tag ∷ now (a .entry) ++ now (b .entry) ++ now (c .entry) ++ now (d .entry)) (length (now (out .entry))) ⌝ }
 {
-    let s = shake::absorb(shake::absorb(tagged(rate, tag), a), b);
-    shake::squeeze(shake::absorb(shake::absorb(s, c), d), out);
+    shake::hash(rate, tag, a, b, c, d, out);
 }
 
 pub fn hash5(rate: usize, tag: u8, a: &[u8], b: &[u8], c: &[u8], d: &[u8], e: &[u8], out: &mut [u8])

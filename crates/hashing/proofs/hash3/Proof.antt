@@ -1,37 +1,20 @@
--- `hash3`: the sponge holds the tag and the parts so far. Assumes nothing.
+-- `hash3`: parts that are left out are empty. Assumes nothing.
+use mathlib.Core.List.{append-nil}
 use borrow.Author.Needs.{needs}
 use Rattle.hashing.proofs.hash3.Statement.{statement}
 use Rattle.hashing.proofs.hash3.Tie as tie
 
-tagged-requires : tie.Need-tagged-requires
-tagged-requires c κs = search needs
+slice-aggregate-hash : tie.Need-slice-aggregate-hash
+slice-aggregate-hash c = search needs
 
-absorb-requires : tie.Need-absorb-requires
-absorb-requires c κs = search needs
-
-absorb-requires-2 : tie.Need-absorb-requires-2
-absorb-requires-2 c κs = search needs
-
-absorb-requires-3 : tie.Need-absorb-requires-3
-absorb-requires-3 c κs = search needs
-
-squeeze-requires : tie.Need-squeeze-requires
-squeeze-requires c κs = search needs
+hash-requires : tie.Need-hash-requires
+hash-requires c κs = search needs
 
 same-length : tie.Need-same-length
 same-length c = search needs
 
 returns : tie.Need-returns
-returns c = c .before .before .squeeze .ensures .holds (c .before .before .before .before .absorb3 .ensures .holds (c .before .before .before .before .before .absorb2 .ensures .holds (c .before .before .before .before .before .before .absorb .ensures .holds (c .before .before .before .before .before .before .before .tagged .ensures))))
+returns c = simp append-nil at (c .before .before .hash .ensures)
 
 pub hash3-spec : {M : Type 1} → statement M
-hash3-spec =
-    tie.close
-    (tie.spec
-    tagged-requires
-    absorb-requires
-    absorb-requires-2
-    absorb-requires-3
-    squeeze-requires
-    same-length
-    returns)
+hash3-spec = tie.close (tie.spec slice-aggregate-hash hash-requires same-length returns)

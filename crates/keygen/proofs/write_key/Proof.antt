@@ -1,0 +1,145 @@
+-- `write_key`: the powers, their syndrome, then both parts of the key. Assumes nothing.
+use mathlib.Core.Path.{_∙_, ap, sym}
+use mathlib.Core.List.{List, [], _++_}
+use Prim.Native.Nat.{ℕ, _-_, _*_, _≤_}
+use native.Mathlib.Nat.{mul-comm}
+use native.Mathlib.Omega.{arith}
+use borrow.Author.Needs.{needs}
+use lib.ListN.{replicate}
+use lib.Seq.{length-take-le}
+use Rattle.packing.specs.Packing.{pack, size}
+use Rattle.packing.proofs.Below.{below}
+use Rattle.linear.specs.Linear.{syndrome}
+use Rattle.linear.proofs.Kept.{kept-below}
+use Rattle.linear.proofs.Ranges.{below-syndrome}
+use Rattle.expand.proofs.Lent.{lent-within, lent-length, lent-part}
+use Rattle.keygen.proofs.Parts.{put-last, length-last}
+use Rattle.keygen.proofs.Made.{below-powers}
+use Rattle.keygen.proofs.write_key.Statement.{statement}
+use Rattle.keygen.proofs.write_key.Tie as tie
+
+sub-rows : tie.Need-sub-rows
+sub-rows c = search needs
+
+array-borrow-prefix-x : tie.Need-array-borrow-prefix-x
+array-borrow-prefix-x c = search needs
+
+slice-aggregate-powers : tie.Need-slice-aggregate-powers
+slice-aggregate-powers c = sym (length-take-le (c .before .before .before .before .before .args .p .n) (replicate 256 0) (c .before .before .before .before .before .pre .0 .n-fits))
+
+powers-requires : tie.Need-powers-requires
+powers-requires c κs = (length-take-le (c .before .before .before .before .before .args .p .n) (replicate 256 0) (c .before .before .before .before .before .pre .0 .n-fits) ∙ sym (c .before .before .before .before .before .pre .4), c .before .before .before .before .before .pre .5)
+
+array-share-prefix-x : tie.Need-array-share-prefix-x
+array-share-prefix-x c = lent-within (c .before .before .before .before .before .before .before .args .p .n) (replicate 256 0) (c .before .powers .last .1 .0) (c .before .before .before .before .before .before .before .pre .0 .n-fits) (c .before .powers .kept .1 .0)
+
+slice-aggregate-syndrome : tie.Need-slice-aggregate-syndrome
+slice-aggregate-syndrome c = lent-length (c .before .before .before .before .before .before .before .before .args .p .n) (replicate 256 0) (c .before .before .powers .last .1 .0) (c .before .before .before .before .before .before .before .before .pre .0 .n-fits) (c .before .before .powers .kept .1 .0)
+
+array-borrow-prefix-s : tie.Need-array-borrow-prefix-s
+array-borrow-prefix-s c = search needs
+
+rows-fit : (c : tie.Start) → c .args .p .n - c .args .p .k ≤ 256
+rows-fit c = omega (arith, c .pre .0 .n-fits)
+
+slice-aggregate-syndrome-2 : tie.Need-slice-aggregate-syndrome-2
+slice-aggregate-syndrome-2 c = sym (length-take-le _ (replicate 256 0) (rows-fit (c .before .before .before .before .before .before .before .before .before)))
+
+syndrome-requires : tie.Need-syndrome-requires
+syndrome-requires c κs =
+    let start = c .before .before .before .before .before .before .before .before .before in
+    let p = start .args .p in
+    let made = c .before .before .before .powers in
+    let rows = length-take-le {A = ℕ} (p .n - p .k) (replicate 256 0) (rows-fit start) in
+    let long = lent-length (p .n) (replicate 256 0) (made .last .1 .0) (start .pre .0 .n-fits) (made .kept .1 .0) in
+    let held = lent-part (p .n) (replicate 256 0) (made .last .1 .0) (start .pre .0 .n-fits) (made .kept .1 .0) ∙ made .ensures in (
+      sym long ∙ omega (arith, rows, start .pre .0 .k≤n),
+      start .pre .2 ∙ mul-comm (p .n - p .k) (p .k) ∙ ap (λ (r : ℕ). p .k * r) (sym rows),
+      rw (sym long) (omega (arith, start .pre .0 .n-fits)),
+      start .pre .3,
+      rw held (kept-below 127 _ (below-powers (below 7 _ (start .pre .5)))),
+    )
+
+slice-relend-prefix-copy : tie.Need-slice-relend-prefix-copy
+slice-relend-prefix-copy c = search needs
+
+slice-aggregate-copy : tie.Need-slice-aggregate-copy
+slice-aggregate-copy c = sym (length-take-le (c .before .before .before .before .before .before .before .before .before .before .before .before .args .p .digest) (c .before .before .before .before .before .before .before .before .before .before .before .before .args .key .now) (omega (arith, c .before .before .before .before .before .before .before .before .before .before .before .before .pre .6)))
+
+copy-requires : tie.Need-copy-requires
+copy-requires c κs = length-take-le (c .before .before .before .before .before .before .before .before .before .before .before .before .args .p .digest) (c .before .before .before .before .before .before .before .before .before .before .before .before .args .key .now) (omega (arith, c .before .before .before .before .before .before .before .before .before .before .before .before .pre .6)) ∙ sym (c .before .before .before .before .before .before .before .before .before .before .before .before .pre .1)
+
+array-share-prefix-s : tie.Need-array-share-prefix-s
+array-share-prefix-s c = lent-within _ (replicate 256 0) (c .before .before .before .before .before .syndrome .last .1 .1 .1 .0) (rows-fit (c .before .before .before .before .before .before .before .before .before .before .before .before .before .before .before)) (c .before .before .before .before .before .syndrome .kept .1 .1 .1 .0)
+
+slice-aggregate-pack-values : tie.Need-slice-aggregate-pack-values
+slice-aggregate-pack-values c = lent-length _ (replicate 256 0) (c .before .before .before .before .before .before .syndrome .last .1 .1 .1 .0) (rows-fit (c .before .before .before .before .before .before .before .before .before .before .before .before .before .before .before .before)) (c .before .before .before .before .before .before .syndrome .kept .1 .1 .1 .0)
+
+sub-pack-values : tie.Need-sub-pack-values
+sub-pack-values c = search needs
+
+part-pack-values-start : tie.Need-part-pack-values-start
+part-pack-values-start c = search needs
+
+part-pack-values-end : tie.Need-part-pack-values-end
+part-pack-values-end c = search needs
+
+pack-values-requires : tie.Need-pack-values-requires
+pack-values-requires c κs =
+    let start = c .before .before .before .before .before .before .before .before .before .before .before .before .before .before .before .before .before in
+    let p = start .args .p in
+    let made = c .before .before .before .before .before .before .before .syndrome in
+    let held = lent-part (p .n - p .k) (replicate 256 0) (made .last .1 .1 .1 .0) (rows-fit start) (made .kept .1 .1 .1 .0) ∙ made .ensures in
+    let long = lent-length (p .n - p .k) (replicate 256 0) (made .last .1 .1 .1 .0) (rows-fit start) (made .kept .1 .1 .1 .0) in
+    let front = length-take-le (p .digest) (start .args .key .now) (omega (arith, start .pre .6)) in (
+      rw held (kept-below 127 _ (below-syndrome _ _ _)),
+      length-last (p .digest) (c .before .before .before .before .copy .last .0) (start .args .key .now) [] (c .before .before .before .before .copy .kept .0 ∙ front) (omega (arith, start .pre .6))
+          ∙ omega (arith, start .pre .6)
+          ∙ ap (λ (n : ℕ). size 7 n) long,
+    )
+
+same-length : tie.Need-same-length
+same-length c = search needs
+
+returns : tie.Need-returns
+returns c =
+    let start = c .before .before .before .before .before .before .before .before .before .before .before .before .before .before .before .before .before .before .before .before in
+    let p = start .args .p in
+    let raised = c .before .before .before .before .before .before .before .before .before .before .before .before .before .before .powers in
+    let made = c .before .before .before .before .before .before .before .before .before .before .syndrome in
+    let copied = c .before .before .before .before .before .before .before .copy in
+    let front = length-take-le (p .digest) (start .args .key .now) (omega (arith, start .pre .6)) in
+    let powers-held = lent-part (p .n) (replicate 256 0) (raised .last .1 .0) (start .pre .0 .n-fits) (raised .kept .1 .0) ∙ raised .ensures in
+    let held =
+    lent-part (p .n - p .k) (replicate 256 0) (made .last .1 .1 .1 .0) (rows-fit start) (made .kept .1 .1 .1 .0)
+    ∙ made .ensures
+    ∙ ap (λ (x : List ℕ). syndrome (p .k) (start .args .vs .now) x) powers-held
+    in
+    let packed = c .before .before .pack-values .ensures ∙ ap (λ (s : List ℕ). pack 7 s) held in
+    put-last (p .digest) (copied .last .0) (start .args .key .now) (c .before .before .pack-values .last .1 .0) (copied .kept .0 ∙ front) (omega (arith, start .pre .6))
+    ∙ (λ i. copied .ensures i ++ packed i)
+
+pub write-key-spec : {M : Type 1} → statement M
+write-key-spec =
+    tie.close
+    (tie.spec
+    sub-rows
+    array-borrow-prefix-x
+    slice-aggregate-powers
+    powers-requires
+    array-share-prefix-x
+    slice-aggregate-syndrome
+    array-borrow-prefix-s
+    slice-aggregate-syndrome-2
+    syndrome-requires
+    slice-relend-prefix-copy
+    slice-aggregate-copy
+    copy-requires
+    array-share-prefix-s
+    slice-aggregate-pack-values
+    sub-pack-values
+    part-pack-values-start
+    part-pack-values-end
+    pack-values-requires
+    same-length
+    returns)

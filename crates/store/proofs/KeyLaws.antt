@@ -1,0 +1,122 @@
+-- Laws of keys and of choices between two results. Assumes nothing.
+use mathlib.Core.Path.{_≡_, refl, _∙_, sym}
+use mathlib.Core.Bool.{Bool, true, false, _&&_, _||_}
+use mathlib.Core.List.{List, [], _∷_}
+use Prim.Native.Nat.{ℕ, _<_}
+use native.Mathlib.Omega.{arith}
+use lib.Dec.{T, eqb, ltb, ltb→lt}
+use borrow.Author.Tests.{eqb-true, eq-eqb, ne-eqb}
+use Rattle.outcome.specs.Answer.{pick}
+use Rattle.profile.specs.Rules.{Class, classes, contains, letters}
+use Rattle.store.specs.declared.Key.{Key}
+use Rattle.store.specs.declared.Device.{Device}
+use Rattle.store.specs.Keys.{sameKey, hasClass, deviceOk}
+
+-- ---- tests and choices
+
+pub both-true : (a b : Bool) → (a && b) ≡ true → (a ≡ true) × (b ≡ true)
+both-true true b e = (refl, e)
+both-true false b e = let z : _≡_ {A = ℕ} 0 1 = cc in absurd (omega arith)
+
+pub and-fails : (a b : Bool) → a ≡ false → (a && b) ≡ false
+and-fails a b e = rw e
+
+pub and-holds : (a b : Bool) → a ≡ true → (a && b) ≡ b
+and-holds a b e = rw e
+
+pub not-both : (b : Bool) → b ≡ true → b ≡ false → ⊥
+not-both b t f = let z : _≡_ {A = ℕ} 0 1 = cc in omega arith
+
+-- a second choice by the same test adds nothing
+pub pick-again : {A : Type 0} (b : Bool) (x y z : A) → pick b x (pick b y z) ≡ pick b x z
+pick-again true x y z = refl
+pick-again false x y z = refl
+
+-- two choices of which at most one is made may change places
+pub pick-apart : {A : Type 0} (a b : Bool) (x y z : A) → (a ≡ true → b ≡ true → ⊥) → pick a x (pick b y z) ≡ pick b y (pick a x z)
+pick-apart true true x y z apart = absurd (apart refl refl)
+pick-apart true false x y z apart = refl
+pick-apart false b x y z apart = refl
+
+-- ---- keys
+
+pub same-eq : (a b : Key) → sameKey a b ≡ true → a ≡ b
+unfolding sameKey
+same-eq a b e =
+    let first = both-true (eqb (a .country .first) (b .country .first)) _ e in
+    let second = both-true (eqb (a .country .second) (b .country .second)) _ (first .1) in
+    let p0 = eqb-true (a .country .first) (b .country .first) (first .0) in
+    let p1 = eqb-true (a .country .second) (b .country .second) (second .0) in
+    let p2 = eqb-true (a .class) (b .class) (second .1) in
+    λ i. record { country = record { first = p0 i; second = p1 i }; class = p2 i }
+
+pub same-refl : (a : Key) → sameKey a a ≡ true
+unfolding sameKey
+same-refl a =
+    rw (eq-eqb (a .country .first) _ refl, eq-eqb (a .country .second) _ refl, eq-eqb (a .class) _ refl)
+
+pub same-sym : (a b : Key) → sameKey a b ≡ true → sameKey b a ≡ true
+same-sym a b e = rw (same-eq a b e) (same-refl b)
+
+pub same-comm : (a b : Key) → sameKey a b ≡ sameKey b a
+same-comm a b = go (sameKey a b) (sameKey b a) refl refl
+  where
+    go : (x y : Bool) → sameKey a b ≡ x → sameKey b a ≡ y → x ≡ y
+    go true true e f = refl
+    go true false e f = absurd (not-both (sameKey b a) (same-sym a b e) f)
+    go false true e f = absurd (not-both (sameKey a b) (same-sym b a f) e)
+    go false false e f = refl
+
+-- keys that differ are not both a third
+pub same-apart : (a b k : Key) → sameKey a b ≡ false → sameKey a k ≡ true → sameKey b k ≡ true → ⊥
+same-apart a b k differ ak bk =
+    not-both (sameKey a b) (rw (same-eq a k ak ∙ sym (same-eq b k bk)) (same-refl b)) differ
+
+pub class-apart : (a b : Key) → (a .class ≡ b .class → ⊥) → sameKey a b ≡ false
+unfolding sameKey
+class-apart a b differ =
+    go (eqb (a .country .first) (b .country .first)) (eqb (a .country .second) (b .country .second)) (eqb (a .class) (b .class))
+    (ne-eqb (a .class) (b .class) differ)
+  where
+    go : (x y z : Bool) → z ≡ false → (x && (y && z)) ≡ false
+    go true true z e = e
+    go true false z e = refl
+    go false y z e = refl
+
+-- ---- devices
+
+module _ (table : List Class) (d : Device) where
+  pub device-first : contains letters (d .country .first) ≡ false → deviceOk table d ≡ false
+  unfolding deviceOk
+  device-first e = and-fails (contains letters (d .country .first)) _ e
+
+  pub device-second : contains letters (d .country .first) ≡ true → contains letters (d .country .second) ≡ false
+      → deviceOk table d ≡ false
+  unfolding deviceOk
+  device-second e f =
+      and-holds (contains letters (d .country .first)) _ e ∙ and-fails (contains letters (d .country .second)) _ f
+
+  pub device-class : contains letters (d .country .first) ≡ true → contains letters (d .country .second) ≡ true
+      → deviceOk table d ≡ hasClass table (d .class)
+  unfolding deviceOk
+  device-class e f =
+      and-holds (contains letters (d .country .first)) _ e ∙ and-holds (contains letters (d .country .second)) _ f
+
+-- the class letters of a table of bytes are bytes
+abbrev pub Bytes : List Class → Type 0
+Bytes [] = Unit {0}
+Bytes (c ∷ cs) = T (ltb (c .letter) 256) × Bytes cs
+
+pub class-byte : (table : List Class) → Bytes table → (n : ℕ) → hasClass table n ≡ true → n < 256
+class-byte [] bytes n e = absurd (not-both false e refl)
+class-byte (c ∷ cs) bytes n e = go (eqb n (c .letter)) refl e (class-byte cs (bytes .1) n)
+  where
+    go : (b : Bool) → eqb n (c .letter) ≡ b → (b || hasClass cs n) ≡ true → (hasClass cs n ≡ true → n < 256) → n < 256
+    go true m e rest = omega (arith, eqb-true n (c .letter) m, ltb→lt (c .letter) 256 (bytes .0))
+    go false m e rest = rest e
+
+pub device-class-byte : (d : Device) → deviceOk classes d ≡ true → d .class < 256
+unfolding deviceOk
+device-class-byte d e =
+    let first = both-true (contains letters (d .country .first)) _ e in
+    class-byte classes (tt, (tt, (tt, (tt, tt)))) (d .class) ((both-true (contains letters (d .country .second)) _ (first .1)) .1)

@@ -1,0 +1,5 @@
+pub mod KeyLaws
+pub mod StoredLaws
+pub mod SlotLaws
+pub mod PutLaws
+pub mod Reached

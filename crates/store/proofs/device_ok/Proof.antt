@@ -1,0 +1,48 @@
+-- `store::device_ok` meets its contract. Assumes nothing.
+use mathlib.Core.Path.{_∙_, sym}
+use borrow.Author.Tests.{not-true, not-false}
+use Rattle.profile.specs.Rules.{classes}
+use Rattle.store.proofs.KeyLaws.{device-first, device-second, device-class}
+use borrow.Author.Needs.{needs}
+use Rattle.store.proofs.device_ok.Statement.{statement}
+use Rattle.store.proofs.device_ok.Tie as tie
+
+is-letter-requires : tie.Need-is-letter-requires
+is-letter-requires c κs = search needs
+
+returns : tie.Need-returns
+returns c =
+    sym (device-first classes (c .before .before .args .device)
+    (sym (c .before .is-letter .ensures) ∙ not-true _ (c .if1 .taken)))
+
+is-letter-requires-2 : tie.Need-is-letter-requires-2
+is-letter-requires-2 c κs = search needs
+
+returns-2 : tie.Need-returns-2
+returns-2 c =
+    let first = c .before .before .before in
+    sym (device-second classes (first .before .args .device)
+    (sym (first .is-letter .ensures) ∙ not-false _ (c .before .before .if1 .left))
+    (sym (c .before .is-letter2 .ensures) ∙ not-true _ (c .if2 .taken)))
+
+is-class-requires : tie.Need-is-class-requires
+is-class-requires c κs = search needs
+
+returns-3 : tie.Need-returns-3
+returns-3 c =
+    let first = c .before .before .before .before in
+    c .is-class .ensures
+    ∙ sym (device-class classes (first .before .args .device)
+    (sym (first .is-letter .ensures) ∙ not-false _ (c .before .before .before .if1 .left))
+    (sym (c .before .before .is-letter2 .ensures) ∙ not-false _ (c .before .if2 .left)))
+
+pub device-ok-spec : {M : Type 1} → statement M
+device-ok-spec =
+    tie.close
+    (tie.spec
+    is-letter-requires
+    returns
+    is-letter-requires-2
+    returns-2
+    is-class-requires
+    returns-3)

@@ -1,0 +1,33 @@
+-- What a profile is stored under, and the setting of a device (document 01, "Profile line, package, shelf" and table "Returned").
+-- Assumes nothing.
+use mathlib.Core.Bool.{Bool, false, _&&_, _||_}
+use mathlib.Core.List.{List, [], _∷_}
+use Prim.Native.Nat.{ℕ}
+use lib.Dec.{eqb}
+use Rattle.profile.specs.declared.Profile.{Profile}
+use Rattle.profile.specs.Rules.{Class, contains, letters}
+use Rattle.store.specs.declared.Key.{Key}
+use Rattle.store.specs.declared.Device.{Device}
+
+-- a profile is stored under its country and class
+abbrev pub keyOf : Profile → Key
+keyOf p = record { country = p .country; class = p .class }
+
+-- the country and class that the device is set to
+abbrev pub deviceKey : Device → Key
+deviceKey d = record { country = d .country; class = d .class }
+
+unfoldable pub sameKey : Key → Key → Bool
+sameKey a b =
+    eqb (a .country .first) (b .country .first)
+    && (eqb (a .country .second) (b .country .second) && eqb (a .class) (b .class))
+
+-- the letter is that of a class of the table
+abbrev pub hasClass : List Class → ℕ → Bool
+hasClass [] n = false
+hasClass (c ∷ cs) n = eqb n (c .letter) || hasClass cs n
+
+-- the device is set to two letters A to Z and a class of the table
+unfoldable pub deviceOk : List Class → Device → Bool
+deviceOk table d =
+    contains letters (d .country .first) && (contains letters (d .country .second) && hasClass table (d .class))

@@ -1,0 +1,4 @@
+pub mod Keys
+pub mod Stored
+pub mod Calls
+pub mod Reached
