@@ -1,10 +1,14 @@
 // Category 1: every entry at its fixed sizes, over arrays on the stack that have these sizes (a draw's has room for
 // the rest of its last group).
+ghost use mathlib.Core.Path.{_≡_};
 ghost use Prim.Native.Nat.{_-_, _*_};
 ghost use lib.ListN.{length};
 ghost use Rattle.outcome.specs.Answer.{Answers};
 ghost use Rattle.parameters.specs.Categories.{category1};
 ghost use Rattle.scheme.specs.Key.{makeKeyChecks, publicKey};
+ghost use Rattle.scheme.specs.Sign.{signChecks, signature};
+ghost use Rattle.scheme.specs.Verify.{verify as verifyOf};
+ghost use Rattle.scheme.specs.Examine.{examine};
 ghost use Rattle.sampling.specs.Entry.{AnswersSample, AnswersShuffle};
 
 // V: 51 rows of 76 values, row by row.
@@ -64,4 +68,67 @@ pub fn make_key(private: &[u8], key: &mut [u8]) -> u8
     let mut block = [0u8; 3500];
     let mut vs = [0u8; 3884];
     keygen::make_key(parameters::category1(), private, &mut block, &mut vs, key)
+}
+
+// The signature of a message.
+pub fn sign(private: &[u8], master: &[u8], salt: &[u8], msg: &[u8], sig: &mut [u8]) -> u8
+    ensures { λ r. ⌜ Answers (signChecks category1 (now (private .entry)) (now (master .entry)) (now (salt .entry)) (now (msg .entry)) (length (now (sig .entry)))) (signature category1 (now (private .entry)) (now (master .entry)) (now (salt .entry)) (now (msg .entry))) (now (sig .entry)) r (now (sig .exit)) ⌝ }
+{
+    let mut block = [0u8; 3500];
+    let mut vs = [0u8; 3884];
+    let mut seeds = [0u8; 2608];
+    let mut states = [0u8; 51834];
+    signer::sign::sign(
+        parameters::category1(),
+        private,
+        master,
+        salt,
+        msg,
+        &mut block,
+        &mut vs,
+        &mut seeds,
+        &mut states,
+        sig,
+    )
+}
+
+// Whether a signature is one of the message under the key.
+pub fn verify(key: &[u8], msg: &[u8], sig: &[u8]) -> u8
+    ensures { λ r. ⌜ r ≡ verifyOf category1 (now (key .entry)) (now (msg .entry)) (now (sig .entry)) ⌝ }
+{
+    let mut block = [0u8; 3500];
+    let mut vs = [0u8; 3884];
+    verifier::verify::verify(parameters::category1(), key, msg, sig, &mut block, &mut vs)
+}
+
+// The round examiner: one round, given its challenges and commitments.
+pub fn verify_round(
+    key: &[u8],
+    salt: &[u8],
+    i: u32,
+    c0: &[u8],
+    c1: &[u8],
+    beta: u32,
+    h: &[u8],
+    challenge: u32,
+    reply: &[u8],
+) -> u8
+    ensures { λ r. ⌜ r ≡ examine category1 (now (key .entry)) (now (salt .entry)) i (now (c0 .entry)) (now (c1 .entry)) beta (now (h .entry)) challenge (now (reply .entry)) ⌝ }
+{
+    let mut block = [0u8; 3500];
+    let mut vs = [0u8; 3884];
+    verifier::examine::examine(
+        parameters::category1(),
+        key,
+        salt,
+        i,
+        c0,
+        c1,
+        beta,
+        h,
+        challenge,
+        reply,
+        &mut block,
+        &mut vs,
+    )
 }

@@ -1,11 +1,11 @@
 -- Packing where nothing is refused. Assumes nothing.
-use mathlib.Core.Path.{_≡_, _∙_, sym, ap}
+use mathlib.Core.Path.{_≡_, _∙_, sym}
 use mathlib.Core.List.{List}
 use Prim.Native.Nat.{ℕ}
-use lib.Dec.{T, eqb}
+use lib.Dec.{T}
 use lib.ListN.{length}
 use borrow.Author.Tests.{eq-eqb}
-use Rattle.outcome.specs.Answer.{Answers, pick}
+use Rattle.outcome.specs.Answer.{Answers}
 use Rattle.packing.specs.Packing.{allBelow, pack, packChecks, size}
 use Rattle.packing.proofs.Refusals.{pack-passes}
 use Rattle.packing.proofs.Below.{below, below-test}

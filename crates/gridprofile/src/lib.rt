@@ -1,5 +1,6 @@
 // The C interface: every entry over bytes and numbers, with the contract of the entry that it calls.
 // A slice is a pointer and a length in C.
+use preview::Previewed;
 ghost use mathlib.Core.Path.{_≡_};
 ghost use Prim.Native.Nat.{_-_, _*_};
 ghost use lib.ListN.{length};
@@ -8,6 +9,11 @@ ghost use Rattle.shake.specs.Shake.{shake128};
 ghost use Rattle.packing.specs.Packing.{pack, unpack, packChecks, unpackChecks};
 ghost use Rattle.parameters.specs.Categories.{category1};
 ghost use Rattle.scheme.specs.Key.{makeKeyChecks, publicKey};
+ghost use Rattle.scheme.specs.Sign.{signChecks, signature};
+ghost use Rattle.scheme.specs.Verify.{verify};
+ghost use Rattle.scheme.specs.Examine.{examine};
+ghost use Rattle.image.specs.Entries.{ReadsImage, WritesImage};
+ghost use Rattle.gridprofile.specs.Listing.{PreviewsTo};
 ghost use Rattle.sampling.specs.Entry.{AnswersSample, AnswersShuffle};
 
 #[no_mangle]
@@ -85,4 +91,68 @@ pub extern "C" fn gridprofile_make_key(private: &[u8], key: &mut [u8]) -> u8
     ensures { λ r. ⌜ Answers (makeKeyChecks category1 (now (private .entry)) (length (now (key .entry)))) (publicKey category1 (now (private .entry))) (now (key .entry)) r (now (key .exit)) ⌝ }
 {
     category1::make_key(private, key)
+}
+
+#[no_mangle]
+pub extern "C" fn gridprofile_sign(
+    private: &[u8],
+    master: &[u8],
+    salt: &[u8],
+    msg: &[u8],
+    sig: &mut [u8],
+) -> u8
+    ensures { λ r. ⌜ Answers (signChecks category1 (now (private .entry)) (now (master .entry)) (now (salt .entry)) (now (msg .entry)) (length (now (sig .entry)))) (signature category1 (now (private .entry)) (now (master .entry)) (now (salt .entry)) (now (msg .entry))) (now (sig .entry)) r (now (sig .exit)) ⌝ }
+{
+    category1::sign(private, master, salt, msg, sig)
+}
+
+#[no_mangle]
+pub extern "C" fn gridprofile_verify(key: &[u8], msg: &[u8], sig: &[u8]) -> u8
+    ensures { λ r. ⌜ r ≡ verify category1 (now (key .entry)) (now (msg .entry)) (now (sig .entry)) ⌝ }
+{
+    category1::verify(key, msg, sig)
+}
+
+#[no_mangle]
+pub extern "C" fn gridprofile_verify_round(
+    key: &[u8],
+    salt: &[u8],
+    i: u32,
+    c0: &[u8],
+    c1: &[u8],
+    beta: u32,
+    h: &[u8],
+    challenge: u32,
+    reply: &[u8],
+) -> u8
+    ensures { λ r. ⌜ r ≡ examine category1 (now (key .entry)) (now (salt .entry)) i (now (c0 .entry)) (now (c1 .entry)) beta (now (h .entry)) challenge (now (reply .entry)) ⌝ }
+{
+    category1::verify_round(key, salt, i, c0, c1, beta, h, challenge, reply)
+}
+
+#[no_mangle]
+pub extern "C" fn gridprofile_read_line(line: &[u8], profile: &mut [u8]) -> u8
+    ensures { λ r. ⌜ ReadsImage (now (line .entry)) (now (profile .entry)) r (now (profile .exit)) ⌝ }
+{
+    image::read_line_image(line, profile)
+}
+
+#[no_mangle]
+pub extern "C" fn gridprofile_write_line(profile: &[u8], out: &mut [u8], length: &mut usize) -> u8
+    ensures { λ r. ⌜ WritesImage (now (profile .entry)) (now (out .entry)) (now (length .entry)) r (now (out .exit)) (now (length .exit)) ⌝ }
+{
+    image::write_line_image(profile, out, length)
+}
+
+#[no_mangle]
+pub extern "C" fn gridprofile_preview(input: &[u8], out: &mut [u8], length: &mut usize) -> u8
+    ensures { λ r. ⌜ PreviewsTo (now (input .entry)) (now (out .entry)) (now (length .entry)) r (now (out .exit)) (now (length .exit)) ⌝ }
+{
+    match preview::preview(input, out) {
+        Previewed::Length(n) => {
+            *length = n;
+            0
+        }
+        Previewed::BadSize => 1,
+    }
 }

@@ -11,7 +11,7 @@ use lib.Bits.{bitOr, bitAnd, or-lt, or-add-and, and-le-r, and-le-l}
 use lib.Dec.{T, ltb, ltb→lt, lt→ltb}
 use lib.ListN.{length, take, drop, length-drop}
 use lib.Seq.{take-all}
-use lib.Pow.{pow-pos, pow-add, shr-lt}
+use lib.Pow.{pow-pos, pow-mono, pow-add, shr-lt}
 use Rattle.outcome.specs.Answer.{pick}
 use Rattle.packing.specs.Packing.{number, digits, unpack, spareZero, allBelow}
 use Rattle.packing.proofs.Below.{Below, same-test, both, both-hold, and-true, in-a-row, append-test, one-test}
@@ -67,6 +67,16 @@ see-group w {s} g i v seen r b e q so-far now =
 pub see-no-group : (w : ℕ) (s : List ℕ) → ltb 0 (2 ^ w) ≡ allBelow (2 ^ w - 1) (digits w (0 * 8) (number 8 s))
 unfolding digits allBelow
 see-no-group w s = lt-ltb 0 (2 ^ w) (pow-pos w)
+
+-- fields that stand unpacked, of which x is the largest
+pub see-largest : (w x : ℕ) (xs : List ℕ) → 0 < w → ((m : ℕ) → 0 < m → ltb x m ≡ allBelow m xs)
+    → ltb (x + 1) (2 ^ w) ≡ allBelow (2 ^ w - 1) xs
+see-largest w x xs h largest =
+    let two : 2 ≤ 2 ^ w = pow-mono h in
+    same-test (ltb (x + 1) (2 ^ w)) (ltb x (2 ^ w - 1))
+    (λ t. lt→ltb x (2 ^ w - 1) (omega (arith, ltb→lt (x + 1) (2 ^ w) t)))
+    (λ t. lt→ltb (x + 1) (2 ^ w) (omega (arith, ltb→lt x (2 ^ w - 1) t)))
+    ∙ largest (2 ^ w - 1) (omega arith)
 
 -- a number has at most j + k bits where it has at most j without its k lowest
 shift-test : (x j k : ℕ) → ltb x (2 ^ (j + k)) ≡ ltb (x / 2 ^ k) (2 ^ j)

@@ -170,6 +170,14 @@ fn see_groups(packed: &[u8], groups: usize, w: usize) -> u64
     seen
 }
 
+// The same of fields that stand unpacked: the largest decides.
+fn see_fields(fields: &[u8]) -> u64
+    ensures { λ r.
+        ⌜ (r < 512) × ((w : ℕ) → 0 < w → ltb r (2 ^ w) ≡ allBelow (2 ^ w - 1) (now (fields .entry))) ⌝ }
+{
+    wide(largest(fields)) + 1
+}
+
 // The tests of unpacking n fields below 2 ^ w - 1 from a string of the right size, whose whole groups were seen.
 fn unpack_refusal(packed: &[u8], n: usize, w: usize, seen: u64) -> u8
     requires { ⌜ (length (now packed) ≡ size w n) × (w ≤ 8) × (seen < 512) ⌝ }
@@ -187,7 +195,58 @@ fn unpack_refusal(packed: &[u8], n: usize, w: usize, seen: u64) -> u8
     0
 }
 
-// The entries, for any count of fields: values have 7 bits and are below 127, exponents 3 bits and below 7.
+// Unpacking from a string of the right size, whose whole groups stand unpacked in scratch: they are tested there and
+// copied where nothing is refused.
+fn unpack_from_scratch(packed: &[u8], scratch: &[u8], fields: &mut [u8], w: usize) -> u8
+    requires { ⌜ (length (now packed) ≡ size w (length (now fields))) × (0 < w) × (w ≤ 8) ⌝ }
+    requires { ⌜ length (now fields) ≤ length (now scratch) ⌝ }
+    requires { ⌜ take (length (now fields) / 8 * 8) (now scratch)
+        ≡ digits w (length (now fields) / 8 * 8) (number 8 (now packed)) ⌝ }
+    ensures { λ r.
+        ⌜ Answers (unpackChecks w (2 ^ w - 1) (length (now (fields .entry))) (now (packed .entry)))
+        (unpack w (length (now (fields .entry))) (now (packed .entry)))
+        (now (fields .entry)) r (now (fields .exit)) ⌝ }
+{
+    let n = fields.len();
+    let groups = n / 8;
+    let seen = see_fields(&scratch[..groups * 8]);
+    let refusal = unpack_refusal(packed, n, w, seen);
+    if refusal != 0 {
+        return refusal;
+    }
+    buffers::copy(fields, &scratch[..n]);
+    finish(packed, groups * w, fields, groups * 8, 8, w);
+    0
+}
+
+// At most 256 values from a string of their size: the groups are read once.
+fn unpack_few_values(packed: &[u8], values: &mut [u8]) -> u8
+    requires { ⌜ (length (now packed) ≡ size 7 (length (now values))) × (length (now values) ≤ 256) ⌝ }
+    ensures { λ r.
+        ⌜ Answers (unpackChecks 7 127 (length (now (values .entry))) (now (packed .entry)))
+        (unpack 7 (length (now (values .entry))) (now (packed .entry)))
+        (now (values .entry)) r (now (values .exit)) ⌝ }
+{
+    let mut scratch = [0u8; 256];
+    regroup(packed, &mut scratch, values.len() / 8, 8, 7, 7, 8);
+    unpack_from_scratch(packed, &scratch, values, 7)
+}
+
+// Exponents likewise.
+fn unpack_few_exponents(packed: &[u8], exponents: &mut [u8]) -> u8
+    requires { ⌜ (length (now packed) ≡ size 3 (length (now exponents))) × (length (now exponents) ≤ 256) ⌝ }
+    ensures { λ r.
+        ⌜ Answers (unpackChecks 3 7 (length (now (exponents .entry))) (now (packed .entry)))
+        (unpack 3 (length (now (exponents .entry))) (now (packed .entry)))
+        (now (exponents .entry)) r (now (exponents .exit)) ⌝ }
+{
+    let mut scratch = [0u8; 256];
+    regroup(packed, &mut scratch, exponents.len() / 8, 8, 3, 3, 8);
+    unpack_from_scratch(packed, &scratch, exponents, 3)
+}
+
+// The entries, for any count of fields: values have 7 bits and are below 127, exponents 3 bits and below 7. Since a
+// refusal leaves the buffer as it was, at most 256 fields are unpacked into scratch first, and more are read twice.
 
 pub fn pack_values(values: &[u8], packed: &mut [u8]) -> u8
     ensures { λ r.
@@ -214,6 +273,9 @@ pub fn unpack_values(packed: &[u8], values: &mut [u8]) -> u8
     let n = values.len();
     if packed.len() != packed_size(n, 7) {
         return 1;
+    }
+    if n <= 256 {
+        return unpack_few_values(packed, values);
     }
     let groups = n / 8;
     let seen = see_groups(packed, groups, 7);
@@ -251,6 +313,9 @@ pub fn unpack_exponents(packed: &[u8], exponents: &mut [u8]) -> u8
     let n = exponents.len();
     if packed.len() != packed_size(n, 3) {
         return 1;
+    }
+    if n <= 256 {
+        return unpack_few_exponents(packed, exponents);
     }
     let groups = n / 8;
     let seen = see_groups(packed, groups, 3);

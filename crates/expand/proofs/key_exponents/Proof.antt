@@ -1,11 +1,9 @@
 -- `key_exponents`: the part of the block that was lent holds the hash. Assumes nothing.
-use mathlib.Core.Path.{sym}
 use borrow.Author.Needs.{needs}
 use lib.ListN.{replicate}
-use lib.Seq.{length-take-le}
 use Rattle.scheme.specs.Strings.{bytesFrom, string10}
 use Rattle.scheme.specs.Key.{exponentsFrom, exponentsDrawn}
-use Rattle.expand.proofs.Lent.{lent-within, lent-length, lent-hash}
+use Rattle.expand.proofs.Lent.{Lent, part-length, lent-within, lent-length, lent-hash}
 use Rattle.expand.proofs.Draws.{from-block}
 use Rattle.expand.proofs.key_exponents.Statement.{statement}
 use Rattle.expand.proofs.key_exponents.Tie as tie
@@ -16,22 +14,19 @@ array-borrow-prefix-block c = search needs
 slice-aggregate-hash1 : tie.Need-slice-aggregate-hash1
 slice-aggregate-hash1 c =
     let start = c .before .before .before in
-    sym (length-take-le (start .args .p .exponents) (replicate 256 0) (start .pre .0 .exponents-fits))
+    part-length (start .args .p .exponents) (replicate 256 0) (start .pre .0 .exponents-fits)
 
 hash1-requires : tie.Need-hash1-requires
 hash1-requires c κs = search needs
 
+hashed : (c : tie.After-hash1) → Lent (c .before .before .before .before .args .p .exponents) (replicate 256 0) (c .hash1 .last .1 .1 .1 .0)
+hashed c = record { fits = c .before .before .before .before .pre .0 .exponents-fits; kept = c .hash1 .kept .1 .1 .1 .0 }
+
 array-share-prefix-block : tie.Need-array-share-prefix-block
-array-share-prefix-block c =
-    let hash = c .before .hash1 in
-    let start = c .before .before .before .before .before in
-    lent-within (start .args .p .exponents) (replicate 256 0) (hash .last .1 .1 .1 .0) (start .pre .0 .exponents-fits) (hash .kept .1 .1 .1 .0)
+array-share-prefix-block c = lent-within (hashed (c .before))
 
 slice-aggregate-sampled : tie.Need-slice-aggregate-sampled
-slice-aggregate-sampled c =
-    let hash = c .before .before .hash1 in
-    let start = c .before .before .before .before .before .before in
-    lent-length (start .args .p .exponents) (replicate 256 0) (hash .last .1 .1 .1 .0) (start .pre .0 .exponents-fits) (hash .kept .1 .1 .1 .0)
+slice-aggregate-sampled c = lent-length (hashed (c .before .before))
 
 sampled-requires : tie.Need-sampled-requires
 sampled-requires c κs = search needs
@@ -42,12 +37,9 @@ same-length c = search needs
 returns : tie.Need-returns
 unfolding exponentsDrawn exponentsFrom string10 bytesFrom
 returns c =
-    let hash = c .before .before .before .before .before .before .hash1 in
-    let start = c .before .before .before .before .before .before .before .before .before .before in
-    let p = start .args .p in
-    from-block 3 7 0 (p .n)
-    (lent-hash (p .exponents) (replicate 256 0) (hash .last .1 .1 .1 .0) (start .pre .0 .exponents-fits) (hash .kept .1 .1 .1 .0) (p .rate) _ (hash .ensures))
-    (c .before .before .sampled .ensures)
+    let at-hash = c .before .before .before .before .before .before in
+    let p = at-hash .before .before .before .before .args .p in
+    from-block 3 7 0 (p .n) (lent-hash (hashed at-hash) _ _ (at-hash .hash1 .ensures)) (c .before .before .sampled .ensures)
 
 pub key-exponents-spec : {M : Type 1} → statement M
 key-exponents-spec =

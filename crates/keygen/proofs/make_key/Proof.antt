@@ -13,14 +13,15 @@ use Rattle.outcome.proofs.Checks.{refused, done}
 use Rattle.linear.proofs.Kept.{kept-below}
 use Rattle.scheme.specs.Key.{makeKeyChecks, keySize}
 use Rattle.scheme.proofs.AcceptedKey.{read}
-use Rattle.expand.proofs.Lent.{lent-within}
+use Rattle.keygen.proofs.LentParts.{lent-within}
 use Rattle.keygen.proofs.Made.{public-lent, below-matrix, sized-checks, key-made}
 use Rattle.keygen.proofs.make_key.Statement.{statement}
 use Rattle.keygen.proofs.make_key.Tie as tie
 
 returns : tie.Need-returns
 unfolding makeKeyChecks
-returns c = refused 0 (rw (ne-eqb _ _ (c .if1 .taken))) refl
+returns c =
+    refused 0 (rw (ne-eqb _ _ (c .if1 .taken))) refl
 
 sub-packed-size : tie.Need-sub-packed-size
 sub-packed-size c = search needs
@@ -34,9 +35,11 @@ add-if2 c = search needs
 returns-2 : tie.Need-returns-2
 unfolding makeKeyChecks
 returns-2 c =
-    let p = c .before .before .before .before .before .before .before .args .p in
+    let start = c .before .before .before .before .before .before .before in
+    let if1 = c .before .before .if1 in
+    let p = start .args .p in
     let size-is = c .before .packed-size .ensures in
-    refused 0 (rw (eq-eqb (length (c .before .before .before .before .before .before .before .args .private .now)) (p .digest) (c .before .before .if1 .left), ne-eqb (length (c .before .before .before .before .before .before .before .args .key .now)) (keySize p) (λ e. c .if2 .taken (omega (arith, size-is)))) refl) refl
+    refused 0 (rw (eq-eqb (length (start .args .private .now)) (p .digest) (if1 .left), ne-eqb (length (start .args .key .now)) (keySize p) (λ e. c .if2 .taken (omega (arith, size-is)))) refl) refl
 
 mul-both : tie.Need-mul-both
 mul-both c = search needs
@@ -51,7 +54,9 @@ array-borrow-prefix-seeds : tie.Need-array-borrow-prefix-seeds
 array-borrow-prefix-seeds c = search needs
 
 slice-aggregate-material : tie.Need-slice-aggregate-material
-slice-aggregate-material c = sym (length-take-le _ (replicate 128 0) (omega (arith, c .before .before .before .before .before .before .before .before .pre .0 .digest-fits)))
+slice-aggregate-material c =
+    let start = c .before .before .before .before .before .before .before .before in
+    sym (length-take-le _ (replicate 128 0) (omega (arith, start .pre .0 .digest-fits)))
 
 slice-aggregate-material-2 : tie.Need-slice-aggregate-material-2
 slice-aggregate-material-2 c = search needs
@@ -75,9 +80,12 @@ same-length-2 c = search needs
 returns-3 : tie.Need-returns-3
 returns-3 c =
     let start = c .before .before .before .before .before .before .before .before .before .before .before .before .before .before .before .before .before .before .before in
+    let if1 = c .before .before .before .before .before .before .before .before .before .before .before .before .before .before .if1 in
+    let if2 = c .before .before .before .before .before .before .before .before .before .before .before .before .if2 in
+    let packed-size-call = c .before .before .before .before .before .before .before .before .before .before .before .before .before .packed-size in
     let got = c .before .before .before .before .before .before .before .material in
     refused 1
-    (sized-checks (start .args .p) (start .args .private .now) _ (c .before .before .before .before .before .before .before .before .before .before .before .before .before .before .if1 .left) (c .before .before .before .before .before .before .before .before .before .before .before .before .if2 .left ∙ ap (λ (n : ℕ). start .args .p .digest + n) (c .before .before .before .before .before .before .before .before .before .before .before .before .before .packed-size .ensures))
+    (sized-checks (start .args .p) (start .args .private .now) _ (if1 .left) (if2 .left ∙ ap (λ (n : ℕ). start .args .p .digest + n) (packed-size-call .ensures))
     ∙ got .ensures .answer ∙ ap (λ (ok : Bool). pick ok 0 2) (not-true (got .result) (c .if3 .taken)))
     refl
 
@@ -88,27 +96,39 @@ part-write-key-start : tie.Need-part-write-key-start
 part-write-key-start c = search needs
 
 part-write-key-end : tie.Need-part-write-key-end
-part-write-key-end c = lent-within _ (replicate 128 0) (c .before .before .before .before .before .before .before .before .material .last .1 .1 .0) (omega (arith, c .before .before .before .before .before .before .before .before .before .before .before .before .before .before .before .before .before .before .before .before .pre .0 .digest-fits)) (c .before .before .before .before .before .before .before .before .material .kept .1 .1 .0)
+part-write-key-end c =
+    let start = c .before .before .before .before .before .before .before .before .before .before .before .before .before .before .before .before .before .before .before .before in
+    let material-call = c .before .before .before .before .before .before .before .before .material in
+    lent-within _ (replicate 128 0) (material-call .last .1 .1 .0) (omega (arith, start .pre .0 .digest-fits)) (material-call .kept .1 .1 .0)
 
 slice-reshare-prefix-write-key : tie.Need-slice-reshare-prefix-write-key
 slice-reshare-prefix-write-key c = search needs
 
 slice-aggregate-write-key : tie.Need-slice-aggregate-write-key
-slice-aggregate-write-key c = sym (length-take-le _ _ (omega (arith, c .before .before .before .before .before .before .before .before .before .before .material .kept .1 .1 .1 .1 .0, c .before .before .before .before .before .before .before .before .before .before .before .before .before .before .before .before .before .before .before .before .before .before .pre .2)))
+slice-aggregate-write-key c =
+    let start = c .before .before .before .before .before .before .before .before .before .before .before .before .before .before .before .before .before .before .before .before .before .before in
+    let material-call = c .before .before .before .before .before .before .before .before .before .before .material in
+    sym (length-take-le _ _ (omega (arith, material-call .kept .1 .1 .1 .1 .0, start .pre .2)))
 
 array-share-prefix-es : tie.Need-array-share-prefix-es
 array-share-prefix-es c = search needs
 
 slice-aggregate-write-key-2 : tie.Need-slice-aggregate-write-key-2
-slice-aggregate-write-key-2 c = sym (length-take-le _ _ (omega (arith, c .before .before .before .before .before .before .before .before .before .before .before .material .kept .1 .1 .1 .1 .1 .0, c .before .before .before .before .before .before .before .before .before .before .before .before .before .before .before .before .before .before .before .before .before .before .before .pre .0 .n-fits)))
+slice-aggregate-write-key-2 c =
+    let start = c .before .before .before .before .before .before .before .before .before .before .before .before .before .before .before .before .before .before .before .before .before .before .before in
+    let material-call = c .before .before .before .before .before .before .before .before .before .before .before .material in
+    sym (length-take-le _ _ (omega (arith, material-call .kept .1 .1 .1 .1 .1 .0, start .pre .0 .n-fits)))
 
 write-key-requires : tie.Need-write-key-requires
 write-key-requires c κs =
     let start = c .before .before .before .before .before .before .before .before .before .before .before .before .before .before .before .before .before .before .before .before .before .before .before .before in
+    let if3 = c .before .before .before .before .before .if3 in
+    let if2 = c .before .before .before .before .before .before .before .before .before .before .before .before .before .before .before .before .before .if2 in
+    let packed-size-call = c .before .before .before .before .before .before .before .before .before .before .before .before .before .before .before .before .before .before .packed-size in
+    let got = c .before .before .before .before .before .before .before .before .before .before .before .before .material in
     let p = start .args .p in
     let private = start .args .private .now in
-    let got = c .before .before .before .before .before .before .before .before .before .before .before .before .material in
-    let ok = not-false (got .result) (c .before .before .before .before .before .if3 .left) in
+    let ok = not-false (got .result) (if3 .left) in
     let drawn = got .ensures .answer ∙ ap (λ (b : Bool). pick b 0 2) ok in
     let within = lent-within (2 * p .digest) (replicate 128 0) (got .last .1 .1 .0) (omega (arith, start .pre .0 .digest-fits)) (got .kept .1 .1 .0) in (
       start .pre .0,
@@ -117,7 +137,7 @@ write-key-requires c κs =
       rw (got .ensures .matrix-held ok) (kept-below 127 _ (below-matrix p _)),
       length-take-le _ _ (omega (arith, got .kept .1 .1 .1 .1 .1 .0, start .pre .0 .n-fits)),
       rw (got .ensures .exponents-held ok) (kept-below 7 _ (read p (start .pre .0) private drawn .ranged)),
-      c .before .before .before .before .before .before .before .before .before .before .before .before .before .before .before .before .before .if2 .left ∙ ap (λ (n : ℕ). p .digest + n) (c .before .before .before .before .before .before .before .before .before .before .before .before .before .before .before .before .before .before .packed-size .ensures),
+      if2 .left ∙ ap (λ (n : ℕ). p .digest + n) (packed-size-call .ensures),
     )
 
 same-length-3 : tie.Need-same-length-3
@@ -132,15 +152,20 @@ same-length-5 c = search needs
 returns-4 : tie.Need-returns-4
 returns-4 c =
     let start = c .before .before .before .before .before .before .before .before .before .before .before .before .before .before .before .before .before .before .before .before .before .before .before .before .before .before .before in
+    let if3 = c .before .before .before .before .before .before .before .before .if3 in
+    let if1 = c .before .before .before .before .before .before .before .before .before .before .before .before .before .before .before .before .before .before .before .before .before .before .if1 in
+    let if2 = c .before .before .before .before .before .before .before .before .before .before .before .before .before .before .before .before .before .before .before .before .if2 in
+    let packed-size-call = c .before .before .before .before .before .before .before .before .before .before .before .before .before .before .before .before .before .before .before .before .before .packed-size in
+    let write-key-call = c .before .before .write-key in
+    let got = c .before .before .before .before .before .before .before .before .before .before .before .before .before .before .before .material in
     let p = start .args .p in
     let private = start .args .private .now in
-    let got = c .before .before .before .before .before .before .before .before .before .before .before .before .before .before .before .material in
-    let ok = not-false (got .result) (c .before .before .before .before .before .before .before .before .if3 .left) in
+    let ok = not-false (got .result) (if3 .left) in
     let both-fit = length-take-le {A = ℕ} (2 * p .digest) (replicate 128 0) (omega (arith, start .pre .0 .digest-fits)) in
     done
-    (sized-checks p private _ (c .before .before .before .before .before .before .before .before .before .before .before .before .before .before .before .before .before .before .before .before .before .before .if1 .left) (c .before .before .before .before .before .before .before .before .before .before .before .before .before .before .before .before .before .before .before .before .if2 .left ∙ ap (λ (n : ℕ). p .digest + n) (c .before .before .before .before .before .before .before .before .before .before .before .before .before .before .before .before .before .before .before .before .before .packed-size .ensures))
+    (sized-checks p private _ (if1 .left) (if2 .left ∙ ap (λ (n : ℕ). p .digest + n) (packed-size-call .ensures))
     ∙ got .ensures .answer ∙ ap (λ (b : Bool). pick b 0 2) ok)
-    (c .before .before .write-key .ensures
+    (write-key-call .ensures
     ∙ key-made p private (public-lent p private (got .ensures .seeds-held) (got .kept .1 .1 .0 ∙ both-fit) (drop (2 * p .digest) (replicate 128 0)))
     (got .ensures .matrix-held ok) (got .ensures .exponents-held ok))
 

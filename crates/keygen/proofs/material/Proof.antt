@@ -35,18 +35,21 @@ same-length-3 c = search needs
 returns : tie.Need-returns
 returns c =
     let start = c .before .before .before .before .before .before .before .before .before .before .before .before .before .before .before .before .before .before .before in
+    let matrix-call = c .before .before .before .before .before .matrix in
+    let hash = c .before .before .before .before .before .before .before .before .before .before .before .before .hash1 in
     let p = start .args .p in
     let private = start .args .private .now in
-    let hash = c .before .before .before .before .before .before .before .before .before .before .before .before .hash1 in
     let held = seeds-made p private (start .pre .1) (hash .ensures) in
-    matrix-short p private held (public-part p private held) (not-true _ (c .if1 .taken)) (c .before .before .before .before .before .matrix .ensures)
+    matrix-short p private held (public-part p private held) (not-true _ (c .if1 .taken)) (matrix-call .ensures)
 
 slice-reshare-prefix-key-exponents : tie.Need-slice-reshare-prefix-key-exponents
 slice-reshare-prefix-key-exponents c = search needs
 
 slice-aggregate-key-exponents : tie.Need-slice-aggregate-key-exponents
 slice-aggregate-key-exponents c =
-    sym (length-take-le _ _ (omega (arith, c .before .before .before .before .before .before .before .before .before .before .before .before .before .hash1 .kept .1 .1 .1 .0, c .before .before .before .before .before .before .before .before .before .before .before .before .before .before .before .before .before .before .before .before .pre .1)))
+    let start = c .before .before .before .before .before .before .before .before .before .before .before .before .before .before .before .before .before .before .before .before in
+    let hash1-call = c .before .before .before .before .before .before .before .before .before .before .before .before .before .hash1 in
+    sym (length-take-le _ _ (omega (arith, hash1-call .kept .1 .1 .1 .0, start .pre .1)))
 
 key-exponents-requires : tie.Need-key-exponents-requires
 key-exponents-requires c κs = search needs
@@ -66,12 +69,15 @@ same-length-7 c = search needs
 returns-2 : tie.Need-returns-2
 returns-2 c =
     let start = c .before .before .before .before .before .before .before .before .before .before .before .before .before .before .before .before .before .before .before .before .before .before .before .before in
+    let if1 = c .before .before .before .before .before .if1 in
+    let matrix-call = c .before .before .before .before .before .before .before .before .before .before .matrix in
+    let key-exponents-call = c .before .before .key-exponents in
+    let hash = c .before .before .before .before .before .before .before .before .before .before .before .before .before .before .before .before .before .hash1 in
     let p = start .args .p in
     let private = start .args .private .now in
-    let hash = c .before .before .before .before .before .before .before .before .before .before .before .before .before .before .before .before .before .hash1 in
     let held = seeds-made p private (start .pre .1) (hash .ensures) in
     exponents-drawn p private held (public-part p private held) (secret-part p private held)
-    (not-false _ (c .before .before .before .before .before .if1 .left)) (c .before .before .before .before .before .before .before .before .before .before .matrix .ensures) (c .before .before .key-exponents .ensures)
+    (not-false _ (if1 .left)) (matrix-call .ensures) (key-exponents-call .ensures)
 
 pub material-spec : {M : Type 1} → statement M
 material-spec =

@@ -12,7 +12,7 @@ use Rattle.packing.proofs.Below.{below}
 use Rattle.linear.specs.Linear.{syndrome}
 use Rattle.linear.proofs.Kept.{kept-below}
 use Rattle.linear.proofs.Ranges.{below-syndrome}
-use Rattle.expand.proofs.Lent.{lent-within, lent-length, lent-part}
+use Rattle.keygen.proofs.LentParts.{lent-within, lent-length, lent-part}
 use Rattle.keygen.proofs.Parts.{put-last, length-last}
 use Rattle.keygen.proofs.Made.{below-powers}
 use Rattle.keygen.proofs.write_key.Statement.{statement}
@@ -25,16 +25,25 @@ array-borrow-prefix-x : tie.Need-array-borrow-prefix-x
 array-borrow-prefix-x c = search needs
 
 slice-aggregate-powers : tie.Need-slice-aggregate-powers
-slice-aggregate-powers c = sym (length-take-le (c .before .before .before .before .before .args .p .n) (replicate 256 0) (c .before .before .before .before .before .pre .0 .n-fits))
+slice-aggregate-powers c =
+    let start = c .before .before .before .before .before in
+    sym (length-take-le (start .args .p .n) (replicate 256 0) (start .pre .0 .n-fits))
 
 powers-requires : tie.Need-powers-requires
-powers-requires c κs = (length-take-le (c .before .before .before .before .before .args .p .n) (replicate 256 0) (c .before .before .before .before .before .pre .0 .n-fits) ∙ sym (c .before .before .before .before .before .pre .4), c .before .before .before .before .before .pre .5)
+powers-requires c κs =
+    let start = c .before .before .before .before .before in
+    (length-take-le (start .args .p .n) (replicate 256 0) (start .pre .0 .n-fits) ∙ sym (start .pre .4), start .pre .5)
 
 array-share-prefix-x : tie.Need-array-share-prefix-x
-array-share-prefix-x c = lent-within (c .before .before .before .before .before .before .before .args .p .n) (replicate 256 0) (c .before .powers .last .1 .0) (c .before .before .before .before .before .before .before .pre .0 .n-fits) (c .before .powers .kept .1 .0)
+array-share-prefix-x c =
+    let start = c .before .before .before .before .before .before .before in
+    lent-within (start .args .p .n) (replicate 256 0) (c .before .powers .last .1 .0) (start .pre .0 .n-fits) (c .before .powers .kept .1 .0)
 
 slice-aggregate-syndrome : tie.Need-slice-aggregate-syndrome
-slice-aggregate-syndrome c = lent-length (c .before .before .before .before .before .before .before .before .args .p .n) (replicate 256 0) (c .before .before .powers .last .1 .0) (c .before .before .before .before .before .before .before .before .pre .0 .n-fits) (c .before .before .powers .kept .1 .0)
+slice-aggregate-syndrome c =
+    let start = c .before .before .before .before .before .before .before .before in
+    let powers-call = c .before .before .powers in
+    lent-length (start .args .p .n) (replicate 256 0) (powers-call .last .1 .0) (start .pre .0 .n-fits) (powers-call .kept .1 .0)
 
 array-borrow-prefix-s : tie.Need-array-borrow-prefix-s
 array-borrow-prefix-s c = search needs
@@ -43,13 +52,15 @@ rows-fit : (c : tie.Start) → c .args .p .n - c .args .p .k ≤ 256
 rows-fit c = omega (arith, c .pre .0 .n-fits)
 
 slice-aggregate-syndrome-2 : tie.Need-slice-aggregate-syndrome-2
-slice-aggregate-syndrome-2 c = sym (length-take-le _ (replicate 256 0) (rows-fit (c .before .before .before .before .before .before .before .before .before)))
+slice-aggregate-syndrome-2 c =
+    let start = c .before .before .before .before .before .before .before .before .before in
+    sym (length-take-le _ (replicate 256 0) (rows-fit start))
 
 syndrome-requires : tie.Need-syndrome-requires
 syndrome-requires c κs =
     let start = c .before .before .before .before .before .before .before .before .before in
-    let p = start .args .p in
     let made = c .before .before .before .powers in
+    let p = start .args .p in
     let rows = length-take-le {A = ℕ} (p .n - p .k) (replicate 256 0) (rows-fit start) in
     let long = lent-length (p .n) (replicate 256 0) (made .last .1 .0) (start .pre .0 .n-fits) (made .kept .1 .0) in
     let held = lent-part (p .n) (replicate 256 0) (made .last .1 .0) (start .pre .0 .n-fits) (made .kept .1 .0) ∙ made .ensures in (
@@ -64,16 +75,26 @@ slice-relend-prefix-copy : tie.Need-slice-relend-prefix-copy
 slice-relend-prefix-copy c = search needs
 
 slice-aggregate-copy : tie.Need-slice-aggregate-copy
-slice-aggregate-copy c = sym (length-take-le (c .before .before .before .before .before .before .before .before .before .before .before .before .args .p .digest) (c .before .before .before .before .before .before .before .before .before .before .before .before .args .key .now) (omega (arith, c .before .before .before .before .before .before .before .before .before .before .before .before .pre .6)))
+slice-aggregate-copy c =
+    let start = c .before .before .before .before .before .before .before .before .before .before .before .before in
+    sym (length-take-le (start .args .p .digest) (start .args .key .now) (omega (arith, start .pre .6)))
 
 copy-requires : tie.Need-copy-requires
-copy-requires c κs = length-take-le (c .before .before .before .before .before .before .before .before .before .before .before .before .args .p .digest) (c .before .before .before .before .before .before .before .before .before .before .before .before .args .key .now) (omega (arith, c .before .before .before .before .before .before .before .before .before .before .before .before .pre .6)) ∙ sym (c .before .before .before .before .before .before .before .before .before .before .before .before .pre .1)
+copy-requires c κs =
+    let start = c .before .before .before .before .before .before .before .before .before .before .before .before in
+    length-take-le (start .args .p .digest) (start .args .key .now) (omega (arith, start .pre .6)) ∙ sym (start .pre .1)
 
 array-share-prefix-s : tie.Need-array-share-prefix-s
-array-share-prefix-s c = lent-within _ (replicate 256 0) (c .before .before .before .before .before .syndrome .last .1 .1 .1 .0) (rows-fit (c .before .before .before .before .before .before .before .before .before .before .before .before .before .before .before)) (c .before .before .before .before .before .syndrome .kept .1 .1 .1 .0)
+array-share-prefix-s c =
+    let start = c .before .before .before .before .before .before .before .before .before .before .before .before .before .before .before in
+    let syndrome-call = c .before .before .before .before .before .syndrome in
+    lent-within _ (replicate 256 0) (syndrome-call .last .1 .1 .1 .0) (rows-fit start) (syndrome-call .kept .1 .1 .1 .0)
 
 slice-aggregate-pack-values : tie.Need-slice-aggregate-pack-values
-slice-aggregate-pack-values c = lent-length _ (replicate 256 0) (c .before .before .before .before .before .before .syndrome .last .1 .1 .1 .0) (rows-fit (c .before .before .before .before .before .before .before .before .before .before .before .before .before .before .before .before)) (c .before .before .before .before .before .before .syndrome .kept .1 .1 .1 .0)
+slice-aggregate-pack-values c =
+    let start = c .before .before .before .before .before .before .before .before .before .before .before .before .before .before .before .before in
+    let syndrome-call = c .before .before .before .before .before .before .syndrome in
+    lent-length _ (replicate 256 0) (syndrome-call .last .1 .1 .1 .0) (rows-fit start) (syndrome-call .kept .1 .1 .1 .0)
 
 sub-pack-values : tie.Need-sub-pack-values
 sub-pack-values c = search needs
@@ -87,13 +108,14 @@ part-pack-values-end c = search needs
 pack-values-requires : tie.Need-pack-values-requires
 pack-values-requires c κs =
     let start = c .before .before .before .before .before .before .before .before .before .before .before .before .before .before .before .before .before in
-    let p = start .args .p in
+    let copy-call = c .before .before .before .before .copy in
     let made = c .before .before .before .before .before .before .before .syndrome in
+    let p = start .args .p in
     let held = lent-part (p .n - p .k) (replicate 256 0) (made .last .1 .1 .1 .0) (rows-fit start) (made .kept .1 .1 .1 .0) ∙ made .ensures in
     let long = lent-length (p .n - p .k) (replicate 256 0) (made .last .1 .1 .1 .0) (rows-fit start) (made .kept .1 .1 .1 .0) in
     let front = length-take-le (p .digest) (start .args .key .now) (omega (arith, start .pre .6)) in (
       rw held (kept-below 127 _ (below-syndrome _ _ _)),
-      length-last (p .digest) (c .before .before .before .before .copy .last .0) (start .args .key .now) [] (c .before .before .before .before .copy .kept .0 ∙ front) (omega (arith, start .pre .6))
+      length-last (p .digest) (copy-call .last .0) (start .args .key .now) [] (copy-call .kept .0 ∙ front) (omega (arith, start .pre .6))
           ∙ omega (arith, start .pre .6)
           ∙ ap (λ (n : ℕ). size 7 n) long,
     )
@@ -104,10 +126,11 @@ same-length c = search needs
 returns : tie.Need-returns
 returns c =
     let start = c .before .before .before .before .before .before .before .before .before .before .before .before .before .before .before .before .before .before .before .before in
-    let p = start .args .p in
+    let pack-values-call = c .before .before .pack-values in
     let raised = c .before .before .before .before .before .before .before .before .before .before .before .before .before .before .powers in
     let made = c .before .before .before .before .before .before .before .before .before .before .syndrome in
     let copied = c .before .before .before .before .before .before .before .copy in
+    let p = start .args .p in
     let front = length-take-le (p .digest) (start .args .key .now) (omega (arith, start .pre .6)) in
     let powers-held = lent-part (p .n) (replicate 256 0) (raised .last .1 .0) (start .pre .0 .n-fits) (raised .kept .1 .0) ∙ raised .ensures in
     let held =
@@ -115,8 +138,8 @@ returns c =
     ∙ made .ensures
     ∙ ap (λ (x : List ℕ). syndrome (p .k) (start .args .vs .now) x) powers-held
     in
-    let packed = c .before .before .pack-values .ensures ∙ ap (λ (s : List ℕ). pack 7 s) held in
-    put-last (p .digest) (copied .last .0) (start .args .key .now) (c .before .before .pack-values .last .1 .0) (copied .kept .0 ∙ front) (omega (arith, start .pre .6))
+    let packed = pack-values-call .ensures ∙ ap (λ (s : List ℕ). pack 7 s) held in
+    put-last (p .digest) (copied .last .0) (start .args .key .now) (pack-values-call .last .1 .0) (copied .kept .0 ∙ front) (omega (arith, start .pre .6))
     ∙ (λ i. copied .ensures i ++ packed i)
 
 pub write-key-spec : {M : Type 1} → statement M

@@ -1,0 +1,59 @@
+-- Each case of the preview's answer, over bytes. Assumes nothing.
+use mathlib.Core.Path.{_≡_, _∙_, refl, sym, ap}
+use mathlib.Core.Bool.{Bool, true, false}
+use mathlib.Core.List.{List, [], _∷_, _++_}
+use Prim.Native.Nat.{ℕ}
+use native.Mathlib.Omega.{arith}
+use lib.Dec.{eqb}
+use lib.ListN.{length, drop}
+use Rattle.outcome.specs.Answer.{Answers, bad-size, firstRefusal, pick, _unless_, numberOf}
+use Rattle.profile.specs.Result.{Result, done, refused, answer, numberIn}
+use Rattle.preview.specs.declared.Previewed.{Previewed}
+use Rattle.preview.specs.declared.Previewed.the-variants.{Length, BadSize}
+use Rattle.preview.specs.Preview.{Previews, previewAnswer, previewChecks, lentSize}
+use Rattle.gridprofile.specs.Listing.{PreviewsTo}
+
+module _ {input old lent : List ℕ} {r : Previewed} (previews : Previews input old r lent) where
+  -- the test of the size decides the answer
+  decided : (right : Bool) → eqb (length old) lentSize ≡ right
+      → previewAnswer r ≡ pick right (done (length (previews .text))) (refused bad-size)
+  decided right e = previews .answered ∙ rw e
+
+  pub listed : {n : ℕ} (before : ℕ) → r ≡ Length n → PreviewsTo input old before 0 lent n
+  listed {n} before is = go (eqb (length old) lentSize) refl
+    where
+      whole : lent ≡ previews .text ++ drop (length (previews .text)) old
+      whole = previews .content ∙ rw is
+
+      go : (right : Bool) → eqb (length old) lentSize ≡ right → PreviewsTo input old before 0 lent n
+      go true e =
+          let length-is : done n ≡ done (length (previews .text)) = sym (ap previewAnswer is) ∙ decided true e in
+          record {
+            text = previews .text;
+            shows = previews .shows;
+            answers = record { answer = sym (rw e); content = whole };
+            size = cc;
+          }
+      go false e =
+          let never : done n ≡ refused bad-size = sym (ap previewAnswer is) ∙ decided false e in
+          let z : _≡_ {A = ℕ} 0 1 = cc in
+          absurd (omega arith)
+
+  pub unlisted : (before : ℕ) → r ≡ BadSize → PreviewsTo input old before 1 lent before
+  unlisted before is = go (eqb (length old) lentSize) refl
+    where
+      kept : lent ≡ old
+      kept = previews .content ∙ rw is
+
+      go : (right : Bool) → eqb (length old) lentSize ≡ right → PreviewsTo input old before 1 lent before
+      go true e =
+          let never : refused bad-size ≡ done (length (previews .text)) = sym (ap previewAnswer is) ∙ decided true e in
+          let z : _≡_ {A = ℕ} 0 1 = cc in
+          absurd (omega arith)
+      go false e =
+          record {
+            text = previews .text;
+            shows = previews .shows;
+            answers = record { answer = sym (rw e); content = kept };
+            size = refl;
+          }

@@ -1,0 +1,5 @@
+pub mod WordLaws
+pub mod ImageLaws
+pub mod StoreLaws
+pub mod EntryLaws
+pub mod Theorems

@@ -1,0 +1,63 @@
+-- `image::read_line_image` meets its contract: one check after the other, and then the image. Assumes nothing.
+use mathlib.Core.Path.{_∙_, sym, ap}
+use Rattle.profile.specs.Line.{readAnswer}
+use Rattle.image.proofs.EntryLaws.{read-image-size, read-image-done, read-image-short, read-image-broken}
+use borrow.Author.Needs.{needs}
+use Rattle.image.proofs.read_line_image.Statement.{statement}
+use Rattle.image.proofs.read_line_image.Tie as tie
+
+returns : tie.Need-returns
+returns c = let a = c .before .before .before .args in
+    read-image-size (a .line .now) (a .profile .now) (c .if1 .taken)
+
+read-line-requires : tie.Need-read-line-requires
+read-line-requires c κs = search needs
+
+enum-known-p : tie.Need-enum-known-p
+enum-known-p c = search needs
+
+write-profile-requires : tie.Need-write-profile-requires
+write-profile-requires c κs = search needs
+
+enum-told : tie.Need-enum-told
+enum-told c = search needs
+
+enum-told-2 : tie.Need-enum-told-2
+enum-told-2 c = search needs
+
+same-length : tie.Need-same-length
+same-length c = search needs
+
+returns-2 : tie.Need-returns-2
+returns-2 c =
+    let read = c .before .before .before .before .before .before .before in
+    let a = read .before .before .before .before .args in
+    read-image-done (a .line .now) (a .profile .now) (read .before .if1 .left) _
+    (sym (ap readAnswer (c .before .before .before .before .before .p .given .1)) ∙ read .read-line .ensures) (c .before .before .write-profile .ensures .bytes)
+
+returns-3 : tie.Need-returns-3
+returns-3 c =
+    let read = c .before .before in
+    let a = read .before .before .before .before .args in
+    read-image-short (a .line .now) (a .profile .now) (read .before .if1 .left) (sym (ap readAnswer (c .enum-told .given .1)) ∙ read .read-line .ensures)
+
+returns-4 : tie.Need-returns-4
+returns-4 c =
+    let read = c .before .before in
+    let a = read .before .before .before .before .args in
+    read-image-broken (a .line .now) (a .profile .now) (read .before .if1 .left) (sym (ap readAnswer (c .enum-told2 .given .1)) ∙ read .read-line .ensures)
+
+pub read-line-image-spec : {M : Type 1} → statement M
+read-line-image-spec =
+    tie.close
+    (tie.spec
+    returns
+    read-line-requires
+    enum-known-p
+    write-profile-requires
+    enum-told
+    enum-told-2
+    same-length
+    returns-2
+    returns-3
+    returns-4)

@@ -1,0 +1,30 @@
+-- `image::write_line_image` meets its contract: the size, and then the line. Assumes nothing.
+use Rattle.image.proofs.EntryLaws.{write-image-size, write-image-line}
+use borrow.Author.Needs.{needs}
+use Rattle.image.proofs.write_line_image.Statement.{statement}
+use Rattle.image.proofs.write_line_image.Tie as tie
+
+returns : tie.Need-returns
+returns c = let a = c .before .before .before .args in
+    write-image-size (a .profile .now) (a .out .now) (a .length .now) (c .if1 .taken)
+
+read-profile-requires : tie.Need-read-profile-requires
+read-profile-requires c κs = search needs
+
+put-line-requires : tie.Need-put-line-requires
+put-line-requires c κs = search needs
+
+same-length : tie.Need-same-length
+same-length c = search needs
+
+returns-2 : tie.Need-returns-2
+returns-2 c =
+    let meant = c .before .before .before .before .before in
+    let sized = meant .before in
+    let a = sized .before .before .before .args in
+    write-image-line (a .profile .now) (a .out .now) (a .length .now)
+    (meant .read-profile .result) (sized .if1 .left) (meant .read-profile .ensures) (c .before .before .put-line .ensures)
+
+pub write-line-image-spec : {M : Type 1} → statement M
+write-line-image-spec =
+    tie.close (tie.spec returns read-profile-requires put-line-requires same-length returns-2)

@@ -1,0 +1,96 @@
+// Profiles and stores as images, bytes that C holds, and the line entries over them.
+pub mod get;
+pub mod put;
+
+use get::read_profile;
+use get::read_store;
+use profile::Country;
+use profile::Profile;
+use profile::ReadLine;
+use profile::WriteLine;
+use profile::read_line;
+use profile::write_line;
+use put::write_profile;
+use store::Device;
+use store::LookupAnswer;
+use store::device_ok;
+use store::lookup;
+ghost use Rattle.image.specs.Entries.{ReadsImage, PutsLine, WritesImage, LooksUp};
+
+// Reads a line into the image of its profile.
+pub fn read_line_image(line: &[u8], profile: &mut [u8]) -> u8
+    ensures { λ r. ⌜ ReadsImage (now (line .entry)) (now (profile .entry)) r (now (profile .exit)) ⌝ }
+{
+    if profile.len() != 64 {
+        return 1;
+    }
+    match read_line(line) {
+        ReadLine::Read(p) => {
+            write_profile(p, profile);
+            0
+        }
+        ReadLine::BadSize => 1,
+        ReadLine::BadLine => 5,
+    }
+}
+
+// Writes the line of a profile, and its length.
+fn put_line(p: Profile, out: &mut [u8], length: &mut usize) -> u8
+    ensures { λ r. ⌜ PutsLine p (now (out .entry)) (now (length .entry)) r (now (out .exit)) (now (length .exit)) ⌝ }
+{
+    match write_line(p, out) {
+        WriteLine::Written(n) => {
+            *length = n;
+            0
+        }
+        WriteLine::BadSize => 1,
+        WriteLine::BadProfile => 5,
+    }
+}
+
+// Writes the line of the profile that an image means.
+pub fn write_line_image(profile: &[u8], out: &mut [u8], length: &mut usize) -> u8
+    ensures { λ r. ⌜ WritesImage (now (profile .entry)) (now (out .entry)) (now (length .entry)) r (now (out .exit)) (now (length .exit)) ⌝ }
+{
+    if profile.len() != 64 {
+        return 1;
+    }
+    put_line(read_profile(profile), out, length)
+}
+
+// Writes the line that the store of an image has for a country and class.
+pub fn lookup_image(
+    store: &[u8],
+    country: &[u8],
+    class: u32,
+    out: &mut [u8],
+    length: &mut usize,
+) -> u8
+    ensures { λ r. ⌜ LooksUp (now (store .entry)) (now (country .entry)) class (now (out .entry)) (now (length .entry)) r (now (out .exit)) (now (length .exit)) ⌝ }
+{
+    if country.len() != 2 {
+        return 10;
+    }
+    let letters = Country {
+        first: country[0],
+        second: country[1],
+    };
+    let device = Device {
+        country: letters,
+        class: class,
+    };
+    if !device_ok(device) {
+        return 10;
+    }
+    if store.len() != 1024 {
+        return 1;
+    }
+    if out.len() != 72 {
+        return 1;
+    }
+    match lookup(read_store(store), device) {
+        LookupAnswer::Found(p) => put_line(p, out, length),
+        LookupAnswer::NothingStored => 9,
+        LookupAnswer::BadDevice => 10,
+    }
+}

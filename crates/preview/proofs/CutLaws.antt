@@ -1,0 +1,98 @@
+-- Laws of the input cut into lines, and of what its lines store. Assumes nothing.
+use mathlib.Core.Path.{_≡_, refl, _∙_, sym, ap, subst}
+use mathlib.Core.List.{List, [], _∷_, _++_}
+use Prim.Native.Nat.{ℕ, suc, _+_, _-_, _≤_, _<_}
+use native.Mathlib.Numerals.{add-one}
+use native.Mathlib.Omega.{arith}
+use lib.Dec.{eqb}
+use lib.ListN.{length, getD, take, drop, length-drop, drop-of-length-le}
+use lib.Seq.{take-suc, drop-cons, getD-drop}
+use borrow.Author.Tests.{eq-eqb, ne-eqb}
+use Rattle.outcome.specs.Answer.{pick}
+use Rattle.profile.specs.declared.Profile.{Profile}
+use Rattle.profile.specs.Rules.{classes}
+use Rattle.profile.specs.Line.{lineFeed, readLine}
+use Rattle.store.specs.Reached.{Call, Run, Reached}
+use Rattle.preview.specs.Preview.{cutAfter, cut, LineAt, callsOf, callsIn}
+
+-- ---- the next line
+
+-- no LF stands from a place of the input up to i: what is cut there is cut with these bytes before it
+pub record Passed (input : List ℕ) (at i : ℕ) : Type 0 where
+  pub start : at ≤ i
+  pub within : i ≤ length input
+  pub left : cutAfter (take (i - at) (drop at input)) (drop i input) ≡ cut (drop at input)
+
+pub passed-none : (input : List ℕ) (at : ℕ) → at ≤ length input → Passed input at at
+passed-none input at h =
+    let none : at - at ≡ 0 = omega arith in
+    record { start = omega arith; within = h; left = rw none }
+
+module _ (input : List ℕ) (at i : ℕ) (passed : Passed input at i) where
+  module _ (more : i < length input) where
+    longer : take (i + 1 - at) (drop at input) ≡ take (i - at) (drop at input) ++ (getD input i 0 ∷ [])
+    longer =
+        let next : i + 1 - at ≡ suc (i - at) = omega (arith, passed .start) in
+        let place : at + (i - at) ≡ i = omega (arith, passed .start) in
+        rw next
+        (take-suc (drop at input) (i - at) 0 (omega (arith, passed .start, length-drop at input))
+        ∙ ap (λ (b : ℕ). take (i - at) (drop at input) ++ (b ∷ []))
+        (getD-drop at input (i - at) 0 ∙ ap (λ (k : ℕ). getD input k 0) place))
+
+    step : cutAfter (take (i - at) (drop at input)) (drop i input)
+        ≡ pick (eqb (getD input i 0) lineFeed)
+        (take (i + 1 - at) (drop at input) ∷ cut (drop (i + 1) input))
+        (cutAfter (take (i + 1 - at) (drop at input)) (drop (i + 1) input))
+    unfolding cutAfter
+    step = rw (drop-cons input i 0 more, longer, add-one i)
+
+    pub passed-more : (getD input i 0 ≡ lineFeed → ⊥) → Passed input at (i + 1)
+    passed-more other =
+        let no = ne-eqb (getD input i 0) lineFeed other in
+        record { start = omega (arith, passed .start); within = omega arith; left = sym (rw no at step) ∙ passed .left }
+
+    pub line-found : getD input i 0 ≡ lineFeed → LineAt input at (i + 1)
+    line-found e =
+        let yes = eq-eqb (getD input i 0) lineFeed e in
+        record {
+          start = omega (arith, passed .start);
+          within = omega arith;
+          line = λ h. sym (passed .left) ∙ (rw yes at step);
+          unfinished = λ h. absurd (omega (arith, passed .start));
+        }
+
+  pub line-unfinished : length input ≤ i → LineAt input at at
+  unfolding cutAfter
+  line-unfinished end =
+      record {
+        start = omega arith;
+        within = omega (arith, passed .start, passed .within);
+        line = λ h. absurd (omega arith);
+        unfinished = λ h. sym (passed .left) ∙ rw (drop-of-length-le input end);
+      }
+
+-- ---- what the lines store
+
+run-then : (cs ds : List Call) (ps qs rs : List Profile) → Run ps cs qs → Run qs ds rs → Run ps (cs ++ ds) rs
+run-then [] ds ps qs rs a b = subst (λ (l : List Profile). Run l ds rs) a b
+run-then (c ∷ cs) ds ps qs rs a b = (a .0, a .1, run-then cs ds (a .0) qs rs (a .2) b)
+
+-- the lines before a place left ps: what the lines from there on make of ps, all lines make of nothing
+abbrev pub Left : List ℕ → ℕ → List Profile → Type 0
+Left input at ps = (rs : List Profile) → Run ps (callsIn (cut (drop at input))) rs → Reached (callsIn (cut input)) rs
+
+pub left-all : (input : List ℕ) (ps : List Profile) → ps ≡ [] → Left input 0 ps
+left-all input ps e rs run = subst (λ (l : List Profile). Run l (callsIn (cut input)) rs) e run
+
+module _ (input : List ℕ) (at end : ℕ) (found : LineAt input at end) (ps : List Profile) (left : Left input at ps) where
+  pub left-fewer : at < end → (qs : List Profile) → Run ps (callsOf (readLine classes (take (end - at) (drop at input)))) qs
+      → Left input end qs
+  unfolding callsIn
+  left-fewer h qs run rs others =
+      left rs
+      (rw (found .line h)
+      (run-then (callsOf (readLine classes (take (end - at) (drop at input)))) (callsIn (cut (drop end input))) ps qs rs run others))
+
+  pub left-none : end ≤ at → Reached (callsIn (cut input)) ps
+  unfolding callsIn
+  left-none h = left ps (rw (found .unfinished h) refl)

@@ -1,0 +1,109 @@
+-- What the preview answers. Assumes nothing.
+use mathlib.Core.Path.{_≡_, refl, _∙_, sym, ap}
+use mathlib.Core.Bool.{Bool, true, false}
+use mathlib.Core.List.{List, [], _∷_, _++_}
+use Prim.Native.Nat.{ℕ, _≤_, _<_}
+use native.Mathlib.Omega.{arith}
+use lib.Dec.{eqb, ltb}
+use lib.ListN.{length, drop, length-append}
+use borrow.Author.Tests.{eq-eqb, ne-eqb, ltb-true, ltb-false}
+use Rattle.outcome.specs.Answer.{pick, bad-size}
+use Rattle.decimal.specs.Decimal.{Room, Appended}
+use Rattle.decimal.proofs.Stores.{front-length, front}
+use Rattle.profile.specs.declared.Profile.{Profile}
+use Rattle.profile.specs.Result.{done, refused}
+use Rattle.store.specs.Stored.{insert}
+use Rattle.store.specs.Reached.{Call, answerTo, Step, Run, Reached, model}
+use Rattle.store.proofs.StoredLaws.{find-insert, perm-eq}
+use Rattle.store.proofs.Reached.{reached-hold}
+use Rattle.preview.specs.declared.Previewed.{Previewed}
+use Rattle.preview.specs.declared.Previewed.the-variants.{Length, BadSize}
+use Rattle.preview.specs.Preview.{
+  longestInput,
+  cut,
+  callsIn,
+  shown,
+  ShownOnce,
+  header,
+  tooLong,
+  rows,
+  Shows,
+  lentSize,
+  previewAnswer,
+  Previews,
+}
+
+-- ---- what is shown
+
+-- it is reached by the calls of the lines
+model-run : (cs : List Call) (ps : List Profile) → Run ps cs (model ps cs)
+unfolding model
+model-run [] ps = refl
+model-run (c ∷ cs) ps =
+    let next : List Profile = pick (eqb (answerTo c ps) 0) (insert (c .profile) ps) ps in
+    let step : Step c ps next =
+    record {
+      taken = λ e. rw (eq-eqb (answerTo c ps) 0 e) (record { finds = λ k. find-insert k (c .profile) ps; listed = perm-eq refl });
+      kept = λ ne. rw (ne-eqb (answerTo c ps) 0 ne);
+    } in
+    (next, step, model-run cs next)
+
+pub shown-once : ShownOnce
+shown-once input =
+    let calls = callsIn (cut input) in
+    let holds = reached-hold calls (shown input) (model-run calls []) in
+    (holds .distinct, holds .fits)
+
+-- ---- the text
+
+module _ (input : List ℕ) where
+  pub shows-too-long : longestInput < length input → Shows input tooLong
+  shows-too-long long = record { listed = λ h. absurd (omega arith); too-long = λ h. refl }
+
+  pub shows-listed : length input ≤ longestInput → (ps : List Profile) → Reached (callsIn (cut input)) ps
+      → Shows input (header ++ rows ps)
+  shows-listed size ps run =
+      record {
+        listed = λ h. record { order = ps; each-once = (reached-hold (callsIn (cut input)) ps run) .listed; all = refl };
+        too-long = λ h. absurd (omega arith);
+      }
+
+  -- every input is shown by some text
+  some-text : (text : List ℕ) × Shows input text
+  some-text = go (ltb longestInput (length input)) refl
+    where
+      go : (long : Bool) → ltb longestInput (length input) ≡ long → (text : List ℕ) × Shows input text
+      go true e = (tooLong, shows-too-long (ltb-true longestInput (length input) e))
+      go false e = (
+        header ++ rows (shown input),
+        shows-listed (ltb-false longestInput (length input) e) (shown input) (model-run (callsIn (cut input)) []),
+      )
+
+-- ---- the answer
+
+module _ (input old : List ℕ) where
+  pub previews-refused : (length old ≡ lentSize → ⊥) → Previews input old BadSize old
+  previews-refused size =
+      let other = ne-eqb (length old) lentSize size in
+      record { text = some-text input .0; shows = some-text input .1; answered = rw other; content = refl }
+
+  pub previews-done : {n : ℕ} {text new : List ℕ} → length old ≡ lentSize → Shows input text → Appended old 0 text new n
+      → n ≤ lentSize → Previews input old (Length n) new
+  previews-done {n} {text} {new} size shows put most =
+      let right = eq-eqb (length old) lentSize size in
+      let room : Room old 0 text = record { room = omega (arith, put .place) } in
+      record { text = text; shows = shows; answered = rw right (ap done (front-length put room)); content = front put room }
+
+-- the length that is answered lies within the lent bytes
+pub length-within : {input old lent : List ℕ} {r : Previewed} {n : ℕ} → Previews input old r lent → r ≡ Length n → n ≤ length lent
+length-within {input} {old} {lent} {r} {n} previews answer =
+    go (eqb (length old) lentSize) (sym (ap previewAnswer answer) ∙ previews .answered)
+  where
+    whole : lent ≡ previews .text ++ drop (length (previews .text)) old
+    whole = previews .content ∙ rw answer
+
+    go : (right : Bool) → done n ≡ pick right (done (length (previews .text))) (refused bad-size) → n ≤ length lent
+    go true e =
+        let same : n ≡ length (previews .text) = cc in
+        omega (arith, ap length whole, length-append (previews .text) (drop (length (previews .text)) old))
+    go false e = let z : _≡_ {A = ℕ} 0 1 = cc in absurd (omega arith)

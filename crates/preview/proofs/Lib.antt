@@ -1,0 +1,3 @@
+pub mod CutLaws
+pub mod RowLaws
+pub mod EntryLaws

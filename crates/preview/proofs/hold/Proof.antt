@@ -1,0 +1,18 @@
+-- `preview::hold` meets its contract: it is one call of `store::put`. Assumes nothing.
+use mathlib.Core.Path.{refl}
+use Rattle.store.proofs.Reached.{puts-step}
+use borrow.Author.Needs.{needs}
+use Rattle.preview.proofs.hold.Statement.{statement}
+use Rattle.preview.proofs.hold.Tie as tie
+
+cast-t7 : tie.Need-cast-t7
+cast-t7 c = search needs
+
+put-requires : tie.Need-put-requires
+put-requires c κs = search needs
+
+returns : tie.Need-returns
+returns c = (_, puts-step _ _ _ _ (c .before .put .ensures), refl)
+
+pub hold-spec : {M : Type 1} → statement M
+hold-spec = tie.close (tie.spec cast-t7 put-requires returns)

@@ -1,0 +1,57 @@
+-- `preview::hold_line` meets its contract: a profile is stored, a refused line changes nothing. Assumes nothing.
+use mathlib.Core.Path.{_≡_, refl, _∙_, sym, ap}
+use Rattle.profile.specs.declared.ReadLine.the-variants.{Read, BadSize, BadLine}
+use Rattle.profile.specs.Rules.{classes}
+use Rattle.profile.specs.Line.{readLine, readAnswer}
+use borrow.Author.Needs.{needs}
+use Rattle.preview.proofs.hold_line.Statement.{statement}
+use Rattle.preview.proofs.hold_line.Tie as tie
+
+read-line-requires : tie.Need-read-line-requires
+read-line-requires c κs = search needs
+
+enum-known-read : tie.Need-enum-known-read
+enum-known-read c = search needs
+
+hold-requires : tie.Need-hold-requires
+hold-requires c κs = search needs
+
+enum-told : tie.Need-enum-told
+enum-told c = search needs
+
+enum-told-2 : tie.Need-enum-told-2
+enum-told-2 c = search needs
+
+returns : tie.Need-returns
+returns c =
+    let read = c .before .before .before .before .read-line in
+    let line = c .before .before .before .before .before .before .args .line .now in
+    let done-with : readLine classes line ≡ readAnswer (Read _) = sym (read .ensures) ∙ ap readAnswer (c .before .before .read .given .1) in
+    rw done-with (c .hold .ensures)
+
+returns-2 : tie.Need-returns-2
+returns-2 c =
+    let read = c .before .before .read-line in
+    let line = c .before .before .before .before .args .line .now in
+    let size : readLine classes line ≡ readAnswer BadSize = sym (read .ensures) ∙ ap readAnswer (c .enum-told .given .1) in
+    rw size refl
+
+returns-3 : tie.Need-returns-3
+returns-3 c =
+    let read = c .before .before .read-line in
+    let line = c .before .before .before .before .args .line .now in
+    let broken : readLine classes line ≡ readAnswer BadLine = sym (read .ensures) ∙ ap readAnswer (c .enum-told2 .given .1) in
+    rw broken refl
+
+pub hold-line-spec : {M : Type 1} → statement M
+hold-line-spec =
+    tie.close
+    (tie.spec
+    read-line-requires
+    enum-known-read
+    hold-requires
+    enum-told
+    enum-told-2
+    returns
+    returns-2
+    returns-3)

@@ -1,0 +1,129 @@
+-- What a device would hold, listed before anything is signed (document 01, "Profile line, package, shelf", the preview program).
+-- Assumes nothing.
+use mathlib.Core.Path.{_≡_}
+use mathlib.Core.List.{List, [], _∷_, _++_}
+use Prim.Native.Nat.{ℕ, _-_, _≤_, _<_}
+use lib.Dec.{eqb}
+use lib.ListN.{length, take, drop}
+use Rattle.outcome.specs.Answer.{bad-size, Check, _unless_, pick}
+use Rattle.decimal.specs.Decimal.{decimal}
+use Rattle.profile.specs.declared.Profile.{Profile}
+use Rattle.profile.specs.Result.{Result, done, refused, answer, numberIn}
+use Rattle.profile.specs.Rules.{classes}
+use Rattle.profile.specs.Line.{comma, lineFeed, readLine}
+use Rattle.store.specs.declared.Device.{Device}
+use Rattle.store.specs.Stored.{capacity, Distinct}
+use Rattle.store.specs.Calls.{Perm}
+use Rattle.store.specs.Reached.{Call, model}
+use Rattle.preview.specs.declared.Previewed.{Previewed}
+use Rattle.preview.specs.declared.Previewed.the-variants.{Length, BadSize}
+
+-- ---- the input
+
+-- the length of the longest input that is looked at
+abbrev pub longestInput : ℕ
+longestInput = 65536
+
+-- some bytes cut after each LF, `line` being what stands before them since the last one; what no LF ends is dropped
+unfoldable pub cutAfter : List ℕ → List ℕ → List (List ℕ)
+cutAfter line [] = []
+cutAfter line (b ∷ bs) =
+    let longer : List ℕ = line ++ (b ∷ []) in
+    pick (eqb b lineFeed) (longer ∷ cutAfter [] bs) (cutAfter longer bs)
+
+abbrev pub cut : List ℕ → List (List ℕ)
+cut bytes = cutAfter [] bytes
+
+-- the line that starts at a place of the input ends just before `end`; where no LF ends it, `end` is the place where it starts
+pub record LineAt (input : List ℕ) (at end : ℕ) : Type 0 where
+  pub start : at ≤ end
+  pub within : end ≤ length input
+  pub line : at < end → cut (drop at input) ≡ take (end - at) (drop at input) ∷ cut (drop end input)
+  pub unfinished : end ≤ at → cut (drop at input) ≡ []
+
+-- ---- what is stored
+
+-- a device that is set to a profile's own country and class
+abbrev pub ownDevice : Profile → Device
+ownDevice p = record { country = p .country; class = p .class }
+
+-- a line that is read as a profile is stored, as if signed, on such a device; a refused one is not
+abbrev pub callsOf : Result Profile → List Call
+callsOf (done p) = record { device = ownDevice p; profile = p } ∷ []
+callsOf (refused r) = []
+
+unfoldable pub callsIn : List (List ℕ) → List Call
+callsIn [] = []
+callsIn (line ∷ lines) = callsOf (readLine classes line) ++ callsIn lines
+
+-- the profiles that the lines of the input, stored in their order, leave in a store that was empty: `model` of crate store
+-- goes from line to line and takes in what `put` answers with 0
+abbrev pub shown : List ℕ → List Profile
+shown input = model [] (callsIn (cut input))
+
+-- no key twice, and no more profiles than a store holds (the proof stands in proofs/EntryLaws.antt)
+abbrev pub ShownOnce : Type 0
+ShownOnce = (input : List ℕ) → Distinct (shown input) × (length (shown input) ≤ capacity)
+
+-- ---- the listing
+
+-- `COUNTRY,CLASS,SERIAL` and LF
+abbrev pub header : List ℕ
+header =
+    67 ∷ 79 ∷ 85 ∷ 78 ∷ 84 ∷ 82 ∷ 89 ∷ 44
+    ∷ 67 ∷ 76 ∷ 65 ∷ 83 ∷ 83 ∷ 44
+    ∷ 83 ∷ 69 ∷ 82 ∷ 73 ∷ 65 ∷ 76 ∷ 10 ∷ []
+
+-- `too long` and LF
+abbrev pub tooLong : List ℕ
+tooLong = 116 ∷ 111 ∷ 111 ∷ 32 ∷ 108 ∷ 111 ∷ 110 ∷ 103 ∷ 10 ∷ []
+
+-- country and class, with a comma after each
+abbrev pub keyBytes : Profile → List ℕ
+keyBytes p = p .country .first ∷ p .country .second ∷ comma ∷ p .class ∷ comma ∷ []
+
+-- then the serial and LF
+unfoldable pub row : Profile → List ℕ
+row p = keyBytes p ++ (decimal (p .serial) ++ (lineFeed ∷ []))
+
+-- no row is longer, a serial having at most ten digits
+abbrev pub longestRow : ℕ
+longestRow = 16
+
+unfoldable pub rows : List Profile → List ℕ
+rows [] = []
+rows (p ∷ ps) = row p ++ rows ps
+
+-- The order of the rows is the program's choice. Every choice has in common the header, and after it a row for each of these
+-- profiles, each once, and nothing else.
+pub record Lists (ps : List Profile) (text : List ℕ) : Type 0 where
+  pub order : List Profile
+  pub each-once : Perm order ps
+  pub all : text ≡ header ++ rows order
+
+-- the text that shows an input
+pub record Shows (input text : List ℕ) : Type 0 where
+  pub listed : length input ≤ longestInput → Lists (shown input) text
+  pub too-long : longestInput < length input → text ≡ tooLong
+
+-- ---- the answer
+
+-- how many bytes are lent: the header and 16 rows have room
+abbrev pub lentSize : ℕ
+lentSize = 277
+
+abbrev pub previewChecks : List ℕ → List Check
+previewChecks lent = bad-size unless eqb (length lent) lentSize ∷ []
+
+-- what each case of `preview`'s answer means
+abbrev pub previewAnswer : Previewed → Result ℕ
+previewAnswer (Length n) = done n
+previewAnswer BadSize = refused bad-size
+
+-- The answer is the length of a text that shows the input. The text stands at the front of the lent bytes, and past it what they
+-- held; after a refusal all is as it was.
+pub record Previews (input old : List ℕ) (r : Previewed) (lent : List ℕ) : Type 0 where
+  pub text : List ℕ
+  pub shows : Shows input text
+  pub answered : previewAnswer r ≡ answer (previewChecks old) (length text)
+  pub content : lent ≡ pick (eqb (numberIn (previewAnswer r)) 0) (text ++ drop (length text) old) old

@@ -1,0 +1,17 @@
+// Lists what a device would hold after the profile lines on standard input, each taken as if it were signed.
+use preview::Previewed;
+use preview::preview;
+
+fn main() {
+    // One byte more than the longest input, so that a longer one is told from it.
+    let mut input = [0u8; 65537];
+    // Reads on until the buffer is full or the input ends; an error counts as the end.
+    let length = io::read_full(0, &mut input);
+    // As many bytes as the listing may have, so that nothing is refused.
+    let mut out = [0u8; 277];
+    let answer = preview(&input[..length], &mut out);
+    let Previewed::Length(n) = answer else {
+        return;
+    };
+    io::write_all(1, &out[..n]);
+}

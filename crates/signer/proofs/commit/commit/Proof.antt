@@ -1,0 +1,144 @@
+-- `commit`: both vectors are packed into local arrays, and the string is hashed from its parts. Assumes nothing.
+use mathlib.Core.Path.{_∙_, sym}
+use mathlib.Core.List.{_∷_, _++_}
+use Prim.Native.Nat.{_≤_}
+use native.Mathlib.Omega.{arith}
+use borrow.Author.Needs.{needs}
+use lib.ListN.{length, replicate}
+use lib.Seq.{length-take-le}
+use Rattle.shake.specs.Shake.{shake}
+use Rattle.keygen.proofs.LentParts.{lent-within, lent-length, lent-part}
+use Rattle.signer.proofs.commit.commit.Statement.{statement}
+use Rattle.signer.proofs.commit.commit.Tie as tie
+
+round-number-requires : tie.Need-round-number-requires
+round-number-requires c κs = search needs
+
+packed-size-requires : tie.Need-packed-size-requires
+packed-size-requires c κs = search needs
+
+packed-size-requires-2 : tie.Need-packed-size-requires-2
+packed-size-requires-2 c κs = search needs
+
+values-fit : (c : tie.After-packed-size) → c .packed-size .result ≤ 224
+values-fit c =
+    let start = c .before .before .before .before .before .before in
+    omega (arith, c .packed-size .ensures, start .pre .2)
+
+exponents-fit : (c : tie.After-packed-size2) → c .packed-size2 .result ≤ 96
+exponents-fit c =
+    let start = c .before .before .before .before .before .before .before in
+    omega (arith, c .packed-size2 .ensures, start .pre .4)
+
+array-borrow-prefix-values : tie.Need-array-borrow-prefix-values
+array-borrow-prefix-values c =
+    values-fit (c .before)
+
+slice-aggregate-pack-values : tie.Need-slice-aggregate-pack-values
+slice-aggregate-pack-values c =
+    let packed-size-call = c .before .before .packed-size in
+    let after-packed-size = c .before .before in
+    sym (length-take-le (packed-size-call .result) (replicate 224 0) (values-fit after-packed-size))
+
+pack-values-requires : tie.Need-pack-values-requires
+pack-values-requires c κs =
+    let start = c .before .before .before .before .before .before .before .before in
+    let packed-size-call = c .before .before .packed-size in
+    let after-packed-size = c .before .before in
+    (start .pre .1, length-take-le (packed-size-call .result) (replicate 224 0) (values-fit after-packed-size) ∙ packed-size-call .ensures)
+
+array-borrow-prefix-exponents : tie.Need-array-borrow-prefix-exponents
+array-borrow-prefix-exponents c =
+    let after-packed-size2 = c .before .before .before in
+    exponents-fit after-packed-size2
+
+slice-aggregate-pack-exponents : tie.Need-slice-aggregate-pack-exponents
+slice-aggregate-pack-exponents c =
+    let packed-size2-call = c .before .before .before .before .packed-size2 in
+    let after-packed-size2 = c .before .before .before .before in
+    sym (length-take-le (packed-size2-call .result) (replicate 96 0) (exponents-fit after-packed-size2))
+
+pack-exponents-requires : tie.Need-pack-exponents-requires
+pack-exponents-requires c κs =
+    let start = c .before .before .before .before .before .before .before .before .before .before .before in
+    let packed-size2-call = c .before .before .before .before .packed-size2 in
+    let after-packed-size2 = c .before .before .before .before in
+    (start .pre .3, length-take-le (packed-size2-call .result) (replicate 96 0) (exponents-fit after-packed-size2) ∙ packed-size2-call .ensures)
+
+array-share-prefix-values : tie.Need-array-share-prefix-values
+array-share-prefix-values c =
+    let packed-size-call = c .before .before .before .before .before .before .before .packed-size in
+    let pack-values-call = c .before .before .before .before .pack-values in
+    let after-packed-size = c .before .before .before .before .before .before .before in
+    lent-within (packed-size-call .result) (replicate 224 0) (pack-values-call .last .1 .0) (values-fit after-packed-size) (pack-values-call .kept .1 .0)
+
+slice-aggregate-hash4 : tie.Need-slice-aggregate-hash4
+slice-aggregate-hash4 c =
+    let packed-size-call = c .before .before .before .before .before .before .before .before .packed-size in
+    let pack-values-call = c .before .before .before .before .before .pack-values in
+    let after-packed-size = c .before .before .before .before .before .before .before .before in
+    lent-length (packed-size-call .result) (replicate 224 0) (pack-values-call .last .1 .0) (values-fit after-packed-size) (pack-values-call .kept .1 .0)
+
+array-share-prefix-exponents : tie.Need-array-share-prefix-exponents
+array-share-prefix-exponents c =
+    let packed-size2-call = c .before .before .before .before .before .before .before .packed-size2 in
+    let pack-exponents-call = c .before .before .pack-exponents in
+    let after-packed-size2 = c .before .before .before .before .before .before .before in
+    lent-within (packed-size2-call .result) (replicate 96 0) (pack-exponents-call .last .1 .0) (exponents-fit after-packed-size2) (pack-exponents-call .kept .1 .0)
+
+slice-aggregate-hash4-2 : tie.Need-slice-aggregate-hash4-2
+slice-aggregate-hash4-2 c =
+    let packed-size2-call = c .before .before .before .before .before .before .before .before .packed-size2 in
+    let pack-exponents-call = c .before .before .before .pack-exponents in
+    let after-packed-size2 = c .before .before .before .before .before .before .before .before in
+    lent-length (packed-size2-call .result) (replicate 96 0) (pack-exponents-call .last .1 .0) (exponents-fit after-packed-size2) (pack-exponents-call .kept .1 .0)
+
+slice-aggregate-hash4-3 : tie.Need-slice-aggregate-hash4-3
+slice-aggregate-hash4-3 c = search needs
+
+hash4-requires : tie.Need-hash4-requires
+hash4-requires c κs =
+    let start = c .before .before .before .before .before .before .before .before .before .before .before .before .before .before .before .before .before in
+    start .pre .0
+
+same-length : tie.Need-same-length
+same-length c = search needs
+
+returns : tie.Need-returns
+returns c =
+    let start = c .before .before .before .before .before .before .before .before .before .before .before .before .before .before .before .before .before .before .before .before in
+    let a = start .args in
+    let packed-size-call = c .before .before .before .before .before .before .before .before .before .before .before .before .before .before .packed-size in
+    let pack-values-call = c .before .before .before .before .before .before .before .before .before .before .before .pack-values in
+    let after-packed-size = c .before .before .before .before .before .before .before .before .before .before .before .before .before .before in
+    let packed-size2-call = c .before .before .before .before .before .before .before .before .before .before .before .before .before .packed-size2 in
+    let pack-exponents-call = c .before .before .before .before .before .before .before .before .pack-exponents in
+    let after-packed-size2 = c .before .before .before .before .before .before .before .before .before .before .before .before .before in
+    let round-number-call = c .before .before .before .before .before .before .before .before .before .before .before .before .before .before .before .round-number in
+    let hash4-call = c .before .before .hash4 in
+    let values = lent-part (packed-size-call .result) (replicate 224 0) (pack-values-call .last .1 .0) (values-fit after-packed-size) (pack-values-call .kept .1 .0) ∙ pack-values-call .ensures in
+    let exponents = lent-part (packed-size2-call .result) (replicate 96 0) (pack-exponents-call .last .1 .0) (exponents-fit after-packed-size2) (pack-exponents-call .kept .1 .0) ∙ pack-exponents-call .ensures in
+    let number = round-number-call .ensures in
+    hash4-call .ensures ∙ (λ i. shake (a .rate) (a .tag ∷ values i ++ exponents i ++ a .salt .now ++ number i) (length (a .out .now)))
+
+pub commit-spec : {M : Type 1} → statement M
+commit-spec =
+    tie.close
+    (tie.spec
+    round-number-requires
+    packed-size-requires
+    packed-size-requires-2
+    array-borrow-prefix-values
+    slice-aggregate-pack-values
+    pack-values-requires
+    array-borrow-prefix-exponents
+    slice-aggregate-pack-exponents
+    pack-exponents-requires
+    array-share-prefix-values
+    slice-aggregate-hash4
+    array-share-prefix-exponents
+    slice-aggregate-hash4-2
+    slice-aggregate-hash4-3
+    hash4-requires
+    same-length
+    returns)

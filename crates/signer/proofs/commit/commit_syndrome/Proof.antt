@@ -1,0 +1,229 @@
+-- `commit_syndrome`: each vector is made from those before it, in a part of a local array. Assumes nothing.
+use mathlib.Core.Path.{_≡_, _∙_, ap, sym}
+use mathlib.Core.List.{List, _∷_, _++_}
+use Prim.Native.Nat.{ℕ, _-_, _*_, _≤_}
+use native.Mathlib.Nat.{mul-comm}
+use native.Mathlib.Omega.{arith}
+use borrow.Author.Needs.{needs}
+use lib.ListN.{length, replicate, take, drop}
+use lib.Seq.{length-take-le}
+use Rattle.shake.specs.Shake.{shake}
+use Rattle.packing.specs.Packing.{pack, digits}
+use Rattle.linear.specs.Linear.{transformation, scaled, syndrome}
+use Rattle.linear.proofs.Kept.{kept-below}
+use Rattle.linear.proofs.Ranges.{below-transformation, below-scaled, below-syndrome}
+use Rattle.scheme.specs.Strings.{bytesFrom, digest, string0}
+use Rattle.keygen.proofs.LentParts.{lent-within, lent-length, lent-part}
+use Rattle.signer.proofs.Sponge.{rate-of}
+use Rattle.signer.proofs.commit.commit_syndrome.Statement.{statement}
+use Rattle.signer.proofs.commit.commit_syndrome.Tie as tie
+
+sub-rows : tie.Need-sub-rows
+sub-rows c = search needs
+
+array-borrow-prefix-sigma : tie.Need-array-borrow-prefix-sigma
+array-borrow-prefix-sigma c = search needs
+
+rows-fit : (c : tie.Start) → c .args .p .n - c .args .p .k ≤ 256
+rows-fit c = omega (arith, c .pre .0 .n-fits)
+
+σ-held : (c : tie.After-transform) →
+    let start = c .before .before .before .before .before .before .before .before in
+    take (start .args .p .n) (c .transform .last .1 .1 .0 ++ drop (start .args .p .n) (replicate 256 0)) ≡ transformation (start .args .key .now) (start .args .es .now)
+σ-held c =
+    let start = c .before .before .before .before .before .before .before .before in
+    lent-part (start .args .p .n) (replicate 256 0) (c .transform .last .1 .1 .0) (start .pre .0 .n-fits) (c .transform .kept .1 .1 .0) ∙ c .transform .ensures
+
+σ-long : (c : tie.After-transform) →
+    let start = c .before .before .before .before .before .before .before .before in
+    start .args .p .n ≡ length (take (start .args .p .n) (c .transform .last .1 .1 .0 ++ drop (start .args .p .n) (replicate 256 0)))
+σ-long c =
+    let start = c .before .before .before .before .before .before .before .before in
+    lent-length (start .args .p .n) (replicate 256 0) (c .transform .last .1 .1 .0) (start .pre .0 .n-fits) (c .transform .kept .1 .1 .0)
+
+x-held : (c : tie.After-scale) →
+    let start = c .before .before .before .before .before .before .before .before .before .before .before .before in
+    take (start .args .p .n) (c .scale .last .1 .1 .0 ++ drop (start .args .p .n) (replicate 256 0))
+    ≡ scaled (transformation (start .args .key .now) (start .args .es .now)) (start .args .us .now)
+x-held c =
+    let start = c .before .before .before .before .before .before .before .before .before .before .before .before in
+    let after-transform = c .before .before .before .before in
+    lent-part (start .args .p .n) (replicate 256 0) (c .scale .last .1 .1 .0) (start .pre .0 .n-fits) (c .scale .kept .1 .1 .0)
+    ∙ c .scale .ensures
+    ∙ ap (λ (s : List ℕ). scaled s (start .args .us .now)) (σ-held after-transform)
+
+x-long : (c : tie.After-scale) →
+    let start = c .before .before .before .before .before .before .before .before .before .before .before .before in
+    start .args .p .n ≡ length (take (start .args .p .n) (c .scale .last .1 .1 .0 ++ drop (start .args .p .n) (replicate 256 0)))
+x-long c =
+    let start = c .before .before .before .before .before .before .before .before .before .before .before .before in
+    lent-length (start .args .p .n) (replicate 256 0) (c .scale .last .1 .1 .0) (start .pre .0 .n-fits) (c .scale .kept .1 .1 .0)
+
+s-held : (c : tie.After-syndrome) →
+    let start = c .before .before .before .before .before .before .before .before .before .before .before .before .before .before .before .before in
+    take (start .args .p .n - start .args .p .k) (c .syndrome .last .1 .1 .1 .0 ++ drop (start .args .p .n - start .args .p .k) (replicate 256 0))
+    ≡ syndrome (start .args .p .k) (start .args .vs .now) (scaled (transformation (start .args .key .now) (start .args .es .now)) (start .args .us .now))
+s-held c =
+    let start = c .before .before .before .before .before .before .before .before .before .before .before .before .before .before .before .before in
+    let after-scale = c .before .before .before .before in
+    lent-part (start .args .p .n - start .args .p .k) (replicate 256 0) (c .syndrome .last .1 .1 .1 .0) (rows-fit start) (c .syndrome .kept .1 .1 .1 .0)
+    ∙ c .syndrome .ensures
+    ∙ ap (λ (x : List ℕ). syndrome (start .args .p .k) (start .args .vs .now) x) (x-held after-scale)
+
+s-long : (c : tie.After-syndrome) →
+    let start = c .before .before .before .before .before .before .before .before .before .before .before .before .before .before .before .before in
+    start .args .p .n - start .args .p .k ≡ length (take (start .args .p .n - start .args .p .k) (c .syndrome .last .1 .1 .1 .0 ++ drop (start .args .p .n - start .args .p .k) (replicate 256 0)))
+s-long c =
+    let start = c .before .before .before .before .before .before .before .before .before .before .before .before .before .before .before .before in
+    lent-length (start .args .p .n - start .args .p .k) (replicate 256 0) (c .syndrome .last .1 .1 .1 .0) (rows-fit start) (c .syndrome .kept .1 .1 .1 .0)
+
+slice-aggregate-transform : tie.Need-slice-aggregate-transform
+slice-aggregate-transform c =
+    let start = c .before .before .before .before .before .before .before in
+    sym (length-take-le (start .args .p .n) (replicate 256 0) (start .pre .0 .n-fits))
+
+transform-requires : tie.Need-transform-requires
+transform-requires c κs =
+    let start = c .before .before .before .before .before .before .before in
+    let pre = start .pre in (
+      length-take-le (start .args .p .n) (replicate 256 0) (pre .0 .n-fits) ∙ sym (pre .2 .long),
+      pre .4 .long ∙ sym (pre .2 .long),
+      pre .2 .ranged,
+      pre .4 .ranged,
+    )
+
+array-share-prefix-sigma : tie.Need-array-share-prefix-sigma
+array-share-prefix-sigma c =
+    let start = c .before .before .before .before .before .before .before .before .before in
+    lent-within (start .args .p .n) (replicate 256 0) (c .before .transform .last .1 .1 .0) (start .pre .0 .n-fits) (c .before .transform .kept .1 .1 .0)
+
+slice-aggregate-scale : tie.Need-slice-aggregate-scale
+slice-aggregate-scale c =
+    let after-transform = c .before .before in
+    σ-long after-transform
+
+array-borrow-prefix-x : tie.Need-array-borrow-prefix-x
+array-borrow-prefix-x c = search needs
+
+slice-aggregate-scale-2 : tie.Need-slice-aggregate-scale-2
+slice-aggregate-scale-2 c =
+    let start = c .before .before .before .before .before .before .before .before .before .before .before in
+    sym (length-take-le (start .args .p .n) (replicate 256 0) (start .pre .0 .n-fits))
+
+scale-requires : tie.Need-scale-requires
+scale-requires c κs =
+    let start = c .before .before .before .before .before .before .before .before .before .before .before in
+    let pre = start .pre in
+    let after-transform = c .before .before .before in (
+      length-take-le (start .args .p .n) (replicate 256 0) (pre .0 .n-fits) ∙ σ-long after-transform,
+      pre .3 .long ∙ σ-long after-transform,
+      rw (σ-held after-transform) (kept-below 7 _ (below-transformation _ _)),
+      pre .3 .ranged,
+    )
+
+array-share-prefix-x : tie.Need-array-share-prefix-x
+array-share-prefix-x c =
+    let start = c .before .before .before .before .before .before .before .before .before .before .before .before .before in
+    lent-within (start .args .p .n) (replicate 256 0) (c .before .scale .last .1 .1 .0) (start .pre .0 .n-fits) (c .before .scale .kept .1 .1 .0)
+
+slice-aggregate-syndrome : tie.Need-slice-aggregate-syndrome
+slice-aggregate-syndrome c =
+    let after-scale = c .before .before in
+    x-long after-scale
+
+array-borrow-prefix-s : tie.Need-array-borrow-prefix-s
+array-borrow-prefix-s c = search needs
+
+slice-aggregate-syndrome-2 : tie.Need-slice-aggregate-syndrome-2
+slice-aggregate-syndrome-2 c =
+    let start = c .before .before .before .before .before .before .before .before .before .before .before .before .before .before .before in
+    sym (length-take-le _ (replicate 256 0) (rows-fit start))
+
+syndrome-requires : tie.Need-syndrome-requires
+syndrome-requires c κs =
+    let start = c .before .before .before .before .before .before .before .before .before .before .before .before .before .before .before in
+    let after-scale = c .before .before .before in
+    let p = start .args .p in
+    let rows = length-take-le {A = ℕ} (p .n - p .k) (replicate 256 0) (rows-fit start) in (
+      sym (x-long after-scale) ∙ omega (arith, rows, start .pre .0 .k≤n),
+      start .pre .1 .long ∙ mul-comm (p .n - p .k) (p .k) ∙ ap (λ (r : ℕ). p .k * r) (sym rows),
+      rw (sym (x-long after-scale)) (omega (arith, start .pre .0 .n-fits)),
+      start .pre .1 .ranged,
+      rw (x-held after-scale) (kept-below 127 _ (below-scaled _ _)),
+    )
+
+array-share-prefix-s : tie.Need-array-share-prefix-s
+array-share-prefix-s c =
+    let start = c .before .before .before .before .before .before .before .before .before .before .before .before .before .before .before .before .before in
+    lent-within _ (replicate 256 0) (c .before .syndrome .last .1 .1 .1 .0) (rows-fit start) (c .before .syndrome .kept .1 .1 .1 .0)
+
+slice-aggregate-commit : tie.Need-slice-aggregate-commit
+slice-aggregate-commit c =
+    let after-syndrome = c .before .before in
+    s-long after-syndrome
+
+array-share-prefix-sigma-2 : tie.Need-array-share-prefix-sigma-2
+array-share-prefix-sigma-2 c =
+    let start = c .before .before .before .before .before .before .before .before .before .before .before .before .before .before .before .before .before .before in
+    let transform-call = c .before .before .before .before .before .before .before .before .before .before .transform in
+    lent-within (start .args .p .n) (replicate 256 0) (transform-call .last .1 .1 .0) (start .pre .0 .n-fits) (transform-call .kept .1 .1 .0)
+
+slice-aggregate-commit-2 : tie.Need-slice-aggregate-commit-2
+slice-aggregate-commit-2 c =
+    let after-transform = c .before .before .before .before .before .before .before .before .before .before .before in
+    σ-long after-transform
+
+commit-requires : tie.Need-commit-requires
+commit-requires c κs =
+    let start = c .before .before .before .before .before .before .before .before .before .before .before .before .before .before .before .before .before .before .before .before in
+    let after-syndrome = c .before .before .before .before in
+    let after-transform = c .before .before .before .before .before .before .before .before .before .before .before .before in
+    let sound = start .pre .0 in (
+      rate-of sound,
+      rw (s-held after-syndrome) (kept-below 127 _ (below-syndrome _ _ _)),
+      rw (sym (s-long after-syndrome)) (rows-fit start),
+      rw (σ-held after-transform) (kept-below 7 _ (below-transformation _ _)),
+      rw (sym (σ-long after-transform)) (sound .n-fits),
+    )
+
+same-length : tie.Need-same-length
+same-length c = search needs
+
+returns : tie.Need-returns
+unfolding digest bytesFrom string0
+returns c =
+    let start = c .before .before .before .before .before .before .before .before .before .before .before .before .before .before .before .before .before .before .before .before .before .before .before in
+    let after-syndrome = c .before .before .before .before .before .before .before in
+    let after-transform = c .before .before .before .before .before .before .before .before .before .before .before .before .before .before .before in
+    let commit-call = c .before .before .commit in
+    let a = start .args in
+    let s = s-held after-syndrome in
+    let σ = σ-held after-transform in
+    let sized = start .pre .5 in
+    commit-call .ensures ∙ (λ k. shake (a .p .rate) (0 ∷ pack 7 (s k) ++ pack 3 (σ k) ++ a .salt .now ++ digits 8 2 (a .i)) (sized k))
+
+pub commit-syndrome-spec : {M : Type 1} → statement M
+commit-syndrome-spec =
+    tie.close
+    (tie.spec
+    sub-rows
+    array-borrow-prefix-sigma
+    slice-aggregate-transform
+    transform-requires
+    array-share-prefix-sigma
+    slice-aggregate-scale
+    array-borrow-prefix-x
+    slice-aggregate-scale-2
+    scale-requires
+    array-share-prefix-x
+    slice-aggregate-syndrome
+    array-borrow-prefix-s
+    slice-aggregate-syndrome-2
+    syndrome-requires
+    array-share-prefix-s
+    slice-aggregate-commit
+    array-share-prefix-sigma-2
+    slice-aggregate-commit-2
+    commit-requires
+    same-length
+    returns)

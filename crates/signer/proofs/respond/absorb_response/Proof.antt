@@ -1,0 +1,113 @@
+-- `absorb_response`: the digest of the packed response, in local arrays. Assumes nothing.
+use mathlib.Core.Path.{_∙_, ap, sym}
+use mathlib.Core.List.{List, _∷_}
+use Prim.Native.Nat.{ℕ, _≤_}
+use native.Mathlib.Omega.{arith}
+use borrow.Author.Needs.{needs}
+use lib.ListN.{replicate}
+use lib.Seq.{length-take-le}
+use Rattle.shake.specs.Shake.{shake}
+use Rattle.scheme.specs.Strings.{bytesFrom, digest, string2}
+use Rattle.keygen.proofs.LentParts.{lent-within, lent-length, lent-part, lent-hash}
+use Rattle.signer.proofs.Sponge.{absorbs-to, rate-of}
+use Rattle.signer.proofs.respond.absorb_response.Statement.{statement}
+use Rattle.signer.proofs.respond.absorb_response.Tie as tie
+
+packed-size-requires : tie.Need-packed-size-requires
+packed-size-requires c κs = search needs
+
+packed-fits : (c : tie.After-packed-size) → c .packed-size .result ≤ 224
+packed-fits c =
+    let start = c .before .before in
+    omega (arith, c .packed-size .ensures, start .pre .0 .n-fits)
+
+array-borrow-prefix-packed : tie.Need-array-borrow-prefix-packed
+array-borrow-prefix-packed c =
+    packed-fits c
+
+slice-aggregate-pack-response : tie.Need-slice-aggregate-pack-response
+slice-aggregate-pack-response c =
+    sym (length-take-le (c .before .packed-size .result) (replicate 224 0) (packed-fits (c .before)))
+
+pack-response-requires : tie.Need-pack-response-requires
+pack-response-requires c κs =
+    let start = c .before .before .before in (
+      start .pre .0,
+      start .pre .2,
+      start .pre .3,
+      length-take-le (c .before .packed-size .result) (replicate 224 0) (packed-fits (c .before)) ∙ c .before .packed-size .ensures,
+    )
+
+array-share-prefix-packed : tie.Need-array-share-prefix-packed
+array-share-prefix-packed c =
+    let packed-size-call = c .before .before .before .packed-size in
+    let after-packed-size = c .before .before .before in
+    lent-within (packed-size-call .result) (replicate 224 0) (c .before .pack-response .last .1 .1 .1 .0) (packed-fits after-packed-size) (c .before .pack-response .kept .1 .1 .1 .0)
+
+slice-aggregate-hash1 : tie.Need-slice-aggregate-hash1
+slice-aggregate-hash1 c =
+    let packed-size-call = c .before .before .before .before .packed-size in
+    let pack-response-call = c .before .before .pack-response in
+    let after-packed-size = c .before .before .before .before in
+    lent-length (packed-size-call .result) (replicate 224 0) (pack-response-call .last .1 .1 .1 .0) (packed-fits after-packed-size) (pack-response-call .kept .1 .1 .1 .0)
+
+array-borrow-prefix-hashed : tie.Need-array-borrow-prefix-hashed
+array-borrow-prefix-hashed c = search needs
+
+slice-aggregate-hash1-2 : tie.Need-slice-aggregate-hash1-2
+slice-aggregate-hash1-2 c =
+    let start = c .before .before .before .before .before .before .before in
+    sym (length-take-le (start .args .p .digest) (replicate 64 0) (start .pre .0 .digest-fits))
+
+hash1-requires : tie.Need-hash1-requires
+hash1-requires c κs =
+    let start = c .before .before .before .before .before .before .before in
+    rate-of (start .pre .0)
+
+array-share-prefix-hashed : tie.Need-array-share-prefix-hashed
+array-share-prefix-hashed c =
+    let start = c .before .before .before .before .before .before .before .before .before in
+    lent-within (start .args .p .digest) (replicate 64 0) (c .before .hash1 .last .1 .1 .1 .0) (start .pre .0 .digest-fits) (c .before .hash1 .kept .1 .1 .1 .0)
+
+slice-aggregate-absorb : tie.Need-slice-aggregate-absorb
+slice-aggregate-absorb c =
+    let start = c .before .before .before .before .before .before .before .before .before .before in
+    let hash1-call = c .before .before .hash1 in
+    lent-length (start .args .p .digest) (replicate 64 0) (hash1-call .last .1 .1 .1 .0) (start .pre .0 .digest-fits) (hash1-call .kept .1 .1 .1 .0)
+
+absorb-requires : tie.Need-absorb-requires
+absorb-requires c κs =
+    let start = c .before .before .before .before .before .before .before .before .before .before in
+    start .pre .1
+
+returns : tie.Need-returns
+unfolding digest bytesFrom string2
+returns c =
+    let start = c .before .before .before .before .before .before .before .before .before .before .before in
+    let packed-size-call = c .before .before .before .before .before .before .before .before .before .packed-size in
+    let after-packed-size = c .before .before .before .before .before .before .before .before .before in
+    let made = c .before .before .before .before .before .before .before .pack-response in
+    let hash = c .before .before .before .hash1 in
+    let p = start .args .p in
+    let packed = lent-part (packed-size-call .result) (replicate 224 0) (made .last .1 .1 .1 .0) (packed-fits after-packed-size) (made .kept .1 .1 .1 .0) ∙ made .ensures in
+    absorbs-to (c .absorb .ensures)
+    (lent-hash (p .digest) (replicate 64 0) (hash .last .1 .1 .1 .0) (start .pre .0 .digest-fits) (hash .kept .1 .1 .1 .0) (p .rate) _ (hash .ensures)
+    ∙ ap (λ (y : List ℕ). shake (p .rate) (2 ∷ y) (p .digest)) packed)
+
+pub absorb-response-spec : {M : Type 1} → statement M
+absorb-response-spec =
+    tie.close
+    (tie.spec
+    packed-size-requires
+    array-borrow-prefix-packed
+    slice-aggregate-pack-response
+    pack-response-requires
+    array-share-prefix-packed
+    slice-aggregate-hash1
+    array-borrow-prefix-hashed
+    slice-aggregate-hash1-2
+    hash1-requires
+    array-share-prefix-hashed
+    slice-aggregate-absorb
+    absorb-requires
+    returns)

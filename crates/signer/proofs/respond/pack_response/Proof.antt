@@ -1,0 +1,113 @@
+-- `pack_response`: both masks are parts of the state. Assumes nothing.
+use mathlib.Core.Path.{_≡_, refl, _∙_, ap, sym}
+use mathlib.Core.List.{List}
+use Prim.Native.Nat.{ℕ, _+_, _-_}
+use native.Mathlib.Omega.{arith}
+use borrow.Author.Needs.{needs}
+use lib.ListN.{length, replicate, take, drop}
+use lib.Seq.{length-take-le}
+use Rattle.packing.specs.Packing.{pack, size}
+use Rattle.linear.specs.Linear.{response}
+use Rattle.linear.proofs.Kept.{kept-below}
+use Rattle.linear.proofs.Ranges.{below-response}
+use Rattle.keygen.proofs.LentParts.{lent-within, lent-length, lent-part}
+use Rattle.signer.specs.State.{responseOf, valuesOf, exponentsOf}
+use Rattle.signer.proofs.Loops.{cut}
+use Rattle.signer.proofs.respond.pack_response.Statement.{statement}
+use Rattle.signer.proofs.respond.pack_response.Tie as tie
+
+add-both : tie.Need-add-both
+add-both c = search needs
+
+slice-aggregate-respond : tie.Need-slice-aggregate-respond
+slice-aggregate-respond c =
+    let start = c .before .before .before in
+    sym (start .pre .2 .values .long)
+
+sub-respond : tie.Need-sub-respond
+sub-respond c = search needs
+
+part-respond-start : tie.Need-part-respond-start
+part-respond-start c = search needs
+
+part-respond-end : tie.Need-part-respond-end
+part-respond-end c =
+    let start = c .before .before .before in
+    omega (arith, start .pre .2 .sized)
+
+array-borrow-prefix-y : tie.Need-array-borrow-prefix-y
+array-borrow-prefix-y c = search needs
+
+slice-aggregate-respond-2 : tie.Need-slice-aggregate-respond-2
+slice-aggregate-respond-2 c =
+    let start = c .before .before .before .before .before in
+    sym (length-take-le (start .args .p .n) (replicate 256 0) (start .pre .0 .n-fits))
+
+-- e' as it is lent
+exponents-are : (c : tie.Start) → take (c .args .p .n + c .args .p .n - c .args .p .n) (drop (c .args .p .n) (c .args .state .now)) ≡ exponentsOf (c .args .p) (c .args .state .now)
+exponents-are c = cut (c .args .p .n) (c .args .p .n + c .args .p .n) (c .args .p .n) (c .args .state .now) refl
+
+respond-requires : tie.Need-respond-requires
+respond-requires c κs =
+    let start = c .before .before .before .before .before in
+    let pre = start .pre in (
+      pre .1,
+      length-take-le (start .args .p .n) (replicate 256 0) (pre .0 .n-fits) ∙ sym (pre .2 .values .long),
+      ap (λ (xs : List ℕ). length xs) (exponents-are start) ∙ pre .2 .exponents .long ∙ sym (pre .2 .values .long),
+      pre .2 .values .ranged,
+      rw (exponents-are start) (pre .2 .exponents .ranged),
+    )
+
+array-share-prefix-y : tie.Need-array-share-prefix-y
+array-share-prefix-y c =
+    let start = c .before .before .before .before .before .before .before in
+    lent-within (start .args .p .n) (replicate 256 0) (c .before .respond .last .1 .1 .1 .0) (start .pre .0 .n-fits) (c .before .respond .kept .1 .1 .1 .0)
+
+slice-aggregate-pack-values : tie.Need-slice-aggregate-pack-values
+slice-aggregate-pack-values c =
+    let start = c .before .before .before .before .before .before .before .before in
+    let respond-call = c .before .before .respond in
+    lent-length (start .args .p .n) (replicate 256 0) (respond-call .last .1 .1 .1 .0) (start .pre .0 .n-fits) (respond-call .kept .1 .1 .1 .0)
+
+pack-values-requires : tie.Need-pack-values-requires
+pack-values-requires c κs =
+    let start = c .before .before .before .before .before .before .before .before .before in
+    let made = c .before .before .before .respond in
+    let n = start .args .p .n in
+    let held = lent-part n (replicate 256 0) (made .last .1 .1 .1 .0) (start .pre .0 .n-fits) (made .kept .1 .1 .1 .0) ∙ made .ensures in
+    let long = lent-length n (replicate 256 0) (made .last .1 .1 .1 .0) (start .pre .0 .n-fits) (made .kept .1 .1 .1 .0) in (
+      rw held (kept-below 127 _ (below-response _ _ _)),
+      start .pre .3 ∙ ap (λ (k : ℕ). size 7 k) long,
+    )
+
+same-length : tie.Need-same-length
+same-length c = search needs
+
+returns : tie.Need-returns
+unfolding responseOf
+returns c =
+    let start = c .before .before .before .before .before .before .before .before .before .before .before .before in
+    let pack-values-call = c .before .before .pack-values in
+    let made = c .before .before .before .before .before .before .respond in
+    let a = start .args in
+    let held = lent-part (a .p .n) (replicate 256 0) (made .last .1 .1 .1 .0) (start .pre .0 .n-fits) (made .kept .1 .1 .1 .0) ∙ made .ensures
+    ∙ ap (λ (es : List ℕ). response (a .beta .0) (valuesOf (a .p) (a .state .now)) es) (exponents-are start) in
+    pack-values-call .ensures ∙ ap (λ (y : List ℕ). pack 7 y) held
+
+pub pack-response-spec : {M : Type 1} → statement M
+pack-response-spec =
+    tie.close
+    (tie.spec
+    add-both
+    slice-aggregate-respond
+    sub-respond
+    part-respond-start
+    part-respond-end
+    array-borrow-prefix-y
+    slice-aggregate-respond-2
+    respond-requires
+    array-share-prefix-y
+    slice-aggregate-pack-values
+    pack-values-requires
+    same-length
+    returns)

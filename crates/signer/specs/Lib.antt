@@ -1,0 +1,3 @@
+pub mod Vector
+pub mod State
+pub mod Sizes

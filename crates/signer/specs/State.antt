@@ -1,0 +1,96 @@
+-- What the signer keeps of each round between committing and replying: its state u' ‖ e' ‖ c0(i) ‖ c1(i), and what
+-- is read out of such a state again. The definitions of `scheme` say what each of them is; no message enters a state.
+-- Round j from 0 is the paper's round i = j + 1.
+-- Assumes nothing.
+use mathlib.Core.Path.{_≡_}
+use mathlib.Core.Bool.{Bool, true}
+use mathlib.Core.List.{List, [], _∷_, _++_}
+use Prim.Native.Nat.{ℕ, _+_, _*_, _<_}
+use lib.Dec.{eqb}
+use lib.ListN.{length, take, drop, getD}
+use Rattle.outcome.specs.Answer.{Check, _unless_, short, firstRefusal, pick, Answers}
+use Rattle.outcome.specs.Lists.{flat}
+use Rattle.packing.specs.Packing.{pack}
+use Rattle.parameters.specs.declared.Params.{Params}
+use Rattle.linear.specs.Linear.{response, transformation, scaled, syndrome}
+use Rattle.scheme.specs.Strings.{digest, string0, string1, string2, string6}
+use Rattle.scheme.specs.Sign.{u′, e′, c0, c1, secondChallenges, secondDrawn}
+use Rattle.signer.specs.Vector.{Vector}
+
+-- Checks that all refuse as short, with what they leave in a lent buffer where they pass.
+pub record Drawn (checks : List Check) (made : List ℕ) (ok : Bool) (lent : List ℕ) : Type 0 where
+  pub answer : firstRefusal checks ≡ pick ok 0 2
+  pub content : ok ≡ true → lent ≡ made
+
+module _ (p : Params) where
+  abbrev pub stateSize : ℕ
+  stateSize = 2 * p .n + 2 * p .digest
+
+  -- the state of round j, from the seeds of the rounds
+  unfoldable pub roundState : (vs key : List ℕ) (seed : ℕ → List ℕ) (salt : List ℕ) → ℕ → List ℕ
+  roundState vs key seed salt j =
+      u′ p vs key seed salt [] j ++ e′ p vs key seed salt [] j ++ c0 p vs key seed salt [] j ++ c1 p vs key seed salt [] j
+
+  -- the string of c0(i) from V, the key exponents and the masks u' and e', and the state that they give
+  abbrev pub syndromeString : (vs key us es salt : List ℕ) → ℕ → List ℕ
+  syndromeString vs key us es salt i =
+      string0 (syndrome (p .k) vs (scaled (transformation key es) us)) (transformation key es) salt i
+
+  abbrev pub stateFrom : (vs key us es salt : List ℕ) → ℕ → List ℕ
+  stateFrom vs key us es salt i = us ++ es ++ digest p (syndromeString vs key us es salt i) ++ digest p (string1 us es salt i)
+
+  -- the seed and the state of round j among those of all rounds
+  abbrev pub seedAt : List ℕ → ℕ → List ℕ
+  seedAt seeds j = take (p .seed) (drop (p .seed * j) seeds)
+
+  abbrev pub stateAt : List ℕ → ℕ → List ℕ
+  stateAt states j = take stateSize (drop (stateSize * j) states)
+
+  -- u', e', c0(i) and c1(i) of a state
+  abbrev pub valuesOf : List ℕ → List ℕ
+  valuesOf state = take (p .n) state
+
+  abbrev pub exponentsOf : List ℕ → List ℕ
+  exponentsOf state = take (p .n) (drop (p .n) state)
+
+  abbrev pub c0Of : List ℕ → List ℕ
+  c0Of state = take (p .digest) (drop (2 * p .n) state)
+
+  abbrev pub c1Of : List ℕ → List ℕ
+  c1Of state = take (p .digest) (drop (2 * p .n + p .digest) state)
+
+  -- y under a first challenge, h(i), and h of all rounds
+  unfoldable pub responseOf : ℕ → List ℕ → List ℕ
+  responseOf β state = response β (valuesOf state) (exponentsOf state)
+
+  unfoldable pub responseDigest : List ℕ → List ℕ → ℕ → List ℕ
+  responseDigest states β j = digest p (string2 (responseOf (getD β j 0) (stateAt states j)))
+
+  unfoldable pub responsesDigest : List ℕ → List ℕ → List ℕ
+  responsesDigest states β = digest p (string6 (flat (responseDigest states β) (p .t)))
+
+  -- the part of a round: seed and c0(i) under 1; y, σ and c1(i) under 0
+  unfoldable pub partOf : (key : List ℕ) (β b : ℕ) (seed state : List ℕ) → List ℕ
+  partOf key β b seed state =
+      pick (eqb b 1) (seed ++ c0Of state)
+      (pack 7 (responseOf β state) ++ pack 3 (transformation key (exponentsOf state)) ++ c1Of state)
+
+  unfoldable pub partAt : (key seeds states β b : List ℕ) → ℕ → List ℕ
+  partAt key seeds states β b j = partOf key (getD β j 0) (getD b j 0) (seedAt seeds j) (stateAt states j)
+
+  -- what replying to c, the first challenges β and h answers: one more draw, then the signature
+  abbrev pub Replied : (key seeds states salt msg c β h old : List ℕ) (r : ℕ) (new : List ℕ) → Type 0
+  Replied key seeds states salt msg c β h old r new =
+      Answers (short unless secondDrawn p c β h salt msg ∷ [])
+      (salt ++ c ++ h ++ flat (partAt key seeds states β (secondChallenges p c β h salt msg)) (p .t))
+      old r new
+
+  -- a state with u' and e' in their ranges, and the states of all rounds
+  pub record State (state : List ℕ) : Type 0 where
+    pub sized : length state ≡ stateSize
+    pub values : Vector 127 (p .n) (valuesOf state)
+    pub exponents : Vector 7 (p .n) (exponentsOf state)
+
+  pub record States (states : List ℕ) : Type 0 where
+    pub all-sized : length states ≡ p .t * stateSize
+    pub each : (j : ℕ) → j < p .t → State (stateAt states j)

@@ -1,0 +1,130 @@
+// Signing: sizes, the key's draws, then the rounds step by step.
+use crate::commit;
+use crate::respond;
+use crate::sizes;
+use crate::write;
+use parameters::Params;
+ghost use mathlib.Core.Path.{_≡_};
+ghost use Prim.Native.Nat.{_+_, _*_};
+ghost use lib.ListN.{length};
+ghost use Rattle.outcome.specs.Answer.{Answers};
+ghost use Rattle.parameters.specs.Sound.{Sound};
+ghost use Rattle.scheme.specs.Key.{matrixCount};
+ghost use Rattle.scheme.specs.Sign.{signatureSize, signChecks, signature, signatureFrom, signDraws, roundSeed};
+ghost use Rattle.signer.specs.Vector.{Vector};
+ghost use Rattle.signer.specs.State.{stateSize, States, Replied, responsesDigest};
+
+// From c and the first challenges on: h, the second challenges, and the signature.
+fn reply(
+    p: Params,
+    key: &[u8],
+    seeds: &[u8],
+    states: &[u8],
+    c: &[u8],
+    betas: &[u8],
+    salt: &[u8],
+    msg: &[u8],
+    sig: &mut [u8],
+) -> u8
+    requires { ⌜ Sound p × Vector 7 (p .n) (now key) × (length (now seeds) ≡ p .t * p .seed) × States p (now states) × Vector 127 (p .t) (now betas) ⌝ }
+    requires { ⌜ (length (now c) ≡ p .digest) × (length (now salt) ≡ p .digest) × (length (now sig) ≡ signatureSize p) ⌝ }
+    ensures { λ r. ⌜ Replied p (now (key .entry)) (now (seeds .entry)) (now (states .entry)) (now (salt .entry)) (now (msg .entry)) (now (c .entry)) (now (betas .entry)) (responsesDigest p (now (states .entry)) (now (betas .entry))) (now (sig .entry)) r (now (sig .exit)) ⌝ }
+{
+    let t = p.t;
+    let d = p.digest;
+    let mut h = [0u8; 64];
+    let mut bs = [0u8; 512];
+    respond::respond_all(p, states, betas, &mut h[..d]);
+    if !expand::second_challenges(p, c, betas, &h[..d], salt, msg, &mut bs[..t]) {
+        return 2;
+    }
+    write::write_signature(
+        p,
+        key,
+        seeds,
+        states,
+        salt,
+        c,
+        &h[..d],
+        betas,
+        &bs[..t],
+        sig,
+    );
+    0
+}
+
+// The signature under V and the key exponents.
+fn sign_with(
+    p: Params,
+    vs: &[u8],
+    key: &[u8],
+    master: &[u8],
+    salt: &[u8],
+    msg: &[u8],
+    seeds: &mut [u8],
+    states: &mut [u8],
+    sig: &mut [u8],
+) -> u8
+    requires { ⌜ Sound p × Vector 127 (matrixCount p) (now vs) × Vector 7 (p .n) (now key) × (length (now salt) ≡ p .digest) ⌝ }
+    requires { ⌜ (length (now seeds) ≡ p .t * p .seed) × (length (now states) ≡ p .t * stateSize p) × (length (now sig) ≡ signatureSize p) ⌝ }
+    ensures { λ r. ⌜ Answers (signDraws p (now (vs .entry)) (now (key .entry)) (roundSeed p (now (master .entry)) (now (salt .entry))) (now (salt .entry)) (now (msg .entry)))
+        (signatureFrom p (now (vs .entry)) (now (key .entry)) (roundSeed p (now (master .entry)) (now (salt .entry))) (now (salt .entry)) (now (msg .entry)))
+        (now (sig .entry)) r (now (sig .exit)) ⌝ }
+{
+    let t = p.t;
+    let d = p.digest;
+    let mut c = [0u8; 64];
+    let mut betas = [0u8; 520];
+    hashing::hash2(p.rate, 9, master, salt, seeds);
+    if !commit::commit_all(p, vs, key, seeds, salt, states) {
+        return 2;
+    }
+    commit::commit_states(p, states, &mut c[..d]);
+    if !expand::first_challenges(p, &c[..d], salt, msg, &mut betas) {
+        return 2;
+    }
+    reply(p, key, seeds, states, &c[..d], &betas[..t], salt, msg, sig)
+}
+
+// The signature of a message. Lent besides: a block for V, V, the seeds and the states of the rounds.
+pub fn sign(
+    p: Params,
+    private: &[u8],
+    master: &[u8],
+    salt: &[u8],
+    msg: &[u8],
+    block: &mut [u8],
+    vs: &mut [u8],
+    seeds: &mut [u8],
+    states: &mut [u8],
+    sig: &mut [u8],
+) -> u8
+    requires { ⌜ Sound p × (length (now block) ≡ p .matrix) × (length (now vs) ≡ matrixCount p + 8) × (length (now seeds) ≡ p .t * p .seed) × (length (now states) ≡ p .t * stateSize p) ⌝ }
+    ensures { λ r. ⌜ Answers (signChecks p (now (private .entry)) (now (master .entry)) (now (salt .entry)) (now (msg .entry)) (length (now (sig .entry))))
+        (signature p (now (private .entry)) (now (master .entry)) (now (salt .entry)) (now (msg .entry)))
+        (now (sig .entry)) r (now (sig .exit)) ⌝ }
+{
+    let n = p.n;
+    let refusal = sizes::check_sizes(p, private, master, salt, msg, sig.len());
+    if refusal != 0 {
+        return refusal;
+    }
+    let both = 2 * p.digest;
+    let count = (n - p.k) * p.k;
+    let mut both_seeds = [0u8; 128];
+    let mut key = [0u8; 264];
+    if !keygen::material(p, private, &mut both_seeds[..both], block, vs, &mut key) {
+        return 2;
+    }
+    sign_with(
+        p,
+        &vs[..count],
+        &key[..n],
+        master,
+        salt,
+        msg,
+        seeds,
+        states,
+        sig,
+    )
+}

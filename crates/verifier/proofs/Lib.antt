@@ -1,0 +1,14 @@
+pub mod Answering
+pub mod Comparing
+pub mod Fields
+pub mod Halves
+pub mod Hashed
+pub mod Keys
+pub mod Pieces
+pub mod Rounded
+pub mod Running
+pub mod Seeds
+pub mod Stepping
+pub mod Steps
+pub mod Values
+pub mod Vectors

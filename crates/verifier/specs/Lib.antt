@@ -1,0 +1,4 @@
+pub mod Vector
+pub mod Recomputed
+pub mod Rounds
+pub mod Steps

@@ -1,0 +1,187 @@
+// The round examiner: one round, given its challenges and its commitments.
+use crate::key;
+use crate::reply;
+use crate::rounds;
+use field::Value;
+use parameters::Params;
+ghost use mathlib.Core.Path.{_≡_};
+ghost use Prim.Native.Nat.{_+_, _-_, _*_, _<_, _≤_};
+ghost use lib.ListN.{length};
+ghost use Rattle.outcome.specs.Answer.{firstRefusal};
+ghost use Rattle.parameters.specs.Sound.{Sound};
+ghost use Rattle.scheme.specs.Key.{matrixCount};
+ghost use Rattle.scheme.specs.Round.{replySize};
+ghost use Rattle.scheme.specs.Examine.{examine as examineOf, replySized};
+ghost use Rattle.verifier.specs.Vector.{Vector};
+ghost use Rattle.verifier.specs.Steps.{sizeChecks, numberChecks, roundChecks};
+
+// Whether the reply has its size, which only the challenges 0 and 1 give.
+fn reply_sized(p: Params, challenge: u32, reply: &[u8]) -> bool
+    requires { ⌜ Sound p ⌝ }
+    ensures { λ r. ⌜ r ≡ replySized p challenge (now (reply .entry)) ⌝ }
+{
+    if 1 < challenge {
+        return true;
+    }
+    reply.len() == rounds::reply_size(p, challenge as u8)
+}
+
+fn sizes(
+    p: Params,
+    key: &[u8],
+    salt: &[u8],
+    c0: &[u8],
+    c1: &[u8],
+    h: &[u8],
+    challenge: u32,
+    reply: &[u8],
+) -> u8
+    requires { ⌜ Sound p ⌝ }
+    ensures { λ r.
+        ⌜ r ≡ firstRefusal (sizeChecks p (now (key .entry)) (now (salt .entry)) (now (c0 .entry)) (now (c1 .entry)) (now (h .entry)) challenge (now (reply .entry))) ⌝ }
+{
+    let d = p.digest;
+    if key.len() != d + packing::packed_size(p.n - p.k, 7) {
+        return 1;
+    }
+    if salt.len() != d {
+        return 1;
+    }
+    if c0.len() != d {
+        return 1;
+    }
+    if c1.len() != d {
+        return 1;
+    }
+    if h.len() != d {
+        return 1;
+    }
+    if !reply_sized(p, challenge, reply) {
+        return 1;
+    }
+    0
+}
+
+// i from 1 to t, β from 1 to 126, the challenge 0 or 1.
+fn numbers(p: Params, i: u32, beta: u32, challenge: u32) -> u8
+    requires { ⌜ Sound p ⌝ }
+    ensures { λ r. ⌜ r ≡ firstRefusal (numberChecks p i beta challenge) ⌝ }
+{
+    if i < 1 {
+        return 3;
+    }
+    if p.t < i as usize {
+        return 3;
+    }
+    if beta < 1 {
+        return 3;
+    }
+    if 126 < beta {
+        return 3;
+    }
+    if 1 < challenge {
+        return 3;
+    }
+    0
+}
+
+// The reply, then the matching commitment and h(i).
+fn round(
+    p: Params,
+    vs: &[u8],
+    s: &[u8],
+    salt: &[u8],
+    i: usize,
+    beta: Value,
+    b: u8,
+    reply: &[u8],
+    matching: &[u8],
+    h: &[u8],
+) -> u8
+    requires { ⌜ Sound p × Vector 127 (matrixCount p) (now vs) × Vector 127 (p .n - p .k) (now s) × (beta .0 < 127) ⌝ }
+    requires { ⌜ length (now reply) ≡ replySize p b ⌝ }
+    ensures { λ r.
+        ⌜ r ≡ firstRefusal (roundChecks p (now (vs .entry)) (now (s .entry)) (now (salt .entry)) i (beta .0) b (now (reply .entry)) (now (matching .entry)) (now (h .entry))) ⌝ }
+{
+    let d = p.digest;
+    let end = d + d;
+    let mut out = [0u8; 128];
+    let refusal = reply::recompute(p, vs, s, salt, i, beta, b, reply, &mut out[..end]);
+    if refusal != 0 {
+        return refusal;
+    }
+    if !buffers::equal(matching, &out[..d]) {
+        return 4;
+    }
+    if !buffers::equal(h, &out[d..end]) {
+        return 4;
+    }
+    0
+}
+
+pub fn examine(
+    p: Params,
+    key: &[u8],
+    salt: &[u8],
+    i: u32,
+    c0: &[u8],
+    c1: &[u8],
+    beta: u32,
+    h: &[u8],
+    challenge: u32,
+    reply: &[u8],
+    block: &mut [u8],
+    vs: &mut [u8],
+) -> u8
+    requires { ⌜ Sound p × (length (now block) ≡ p .matrix) × (length (now vs) ≡ matrixCount p + 8) ⌝ }
+    ensures { λ r.
+        ⌜ r ≡ examineOf p (now (key .entry)) (now (salt .entry)) i (now (c0 .entry)) (now (c1 .entry)) beta (now (h .entry)) challenge (now (reply .entry)) ⌝ }
+{
+    let refusal = sizes(p, key, salt, c0, c1, h, challenge, reply);
+    if refusal != 0 {
+        return refusal;
+    }
+    let m = p.n - p.k;
+    let mut s = [0u8; 256];
+    let fields = key::syndrome(p, key, &mut s[..m]);
+    if fields != 0 {
+        return fields;
+    }
+    let range = numbers(p, i, beta, challenge);
+    if range != 0 {
+        return range;
+    }
+    let d = p.digest;
+    if !expand::matrix(p, &key[..d], block, vs) {
+        return 2;
+    }
+    let count = m * p.k;
+    let first = Value(beta as u8);
+    if challenge == 1 {
+        round(
+            p,
+            &vs[..count],
+            &s[..m],
+            salt,
+            i as usize,
+            first,
+            1,
+            reply,
+            c1,
+            h,
+        )
+    } else {
+        round(
+            p,
+            &vs[..count],
+            &s[..m],
+            salt,
+            i as usize,
+            first,
+            0,
+            reply,
+            c0,
+            h,
+        )
+    }
+}

@@ -1,0 +1,181 @@
+// One round recomputed from its reply: the commitment that the reply gives, then h(i).
+use field::Value;
+use parameters::Params;
+ghost use mathlib.Core.Path.{_≡_};
+ghost use mathlib.Core.List.{[], _∷_, _++_};
+ghost use Prim.Native.Nat.{_+_, _-_, _*_, _<_, _≤_};
+ghost use lib.Dec.{T};
+ghost use lib.ListN.{length, take, drop};
+ghost use Rattle.parameters.specs.Sound.{Sound};
+ghost use Rattle.packing.specs.Packing.{allBelow, pack};
+ghost use Rattle.linear.specs.Linear.{scaled, lessTimes, response, syndrome as syndromeOf};
+ghost use Rattle.scheme.specs.Strings.{digest, string1, string2, roundNumber};
+ghost use Rattle.scheme.specs.Key.{matrixCount};
+ghost use Rattle.scheme.specs.Round.{valuesSize, replySize};
+ghost use Rattle.verifier.specs.Vector.{Vector};
+ghost use Rattle.verifier.specs.Recomputed.{Recomputed};
+
+// c1(i): mask values and mask exponents, packed.
+fn commit_mask(p: Params, us: &[u8], es: &[u8], salt: &[u8], i: usize, out: &mut [u8])
+    requires { ⌜ Sound p × Vector 127 (p .n) (now us) × Vector 7 (p .n) (now es) × (length (now out) ≡ p .digest) ⌝ }
+    ensures { λ _. ⌜ now (out .exit) ≡ digest p (string1 (now (us .entry)) (now (es .entry)) (now (salt .entry)) i) ⌝ }
+{
+    let u = packing::packed_size(p.n, 7);
+    let e = packing::packed_size(p.n, 3);
+    let mut values = [0u8; 224];
+    expand::pack_values(us, &mut values[..u]);
+    let mut exponents = [0u8; 96];
+    expand::pack_exponents(es, &mut exponents[..e]);
+    let number = expand::round_number(i);
+    hashing::hash4(p.rate, 1, &values[..u], &exponents[..e], salt, &number, out);
+}
+
+// h(i) of a response.
+fn commit_response(p: Params, ys: &[u8], out: &mut [u8])
+    requires { ⌜ Sound p × Vector 127 (p .n) (now ys) × (length (now out) ≡ p .digest) ⌝ }
+    ensures { λ _. ⌜ now (out .exit) ≡ digest p (string2 (now (ys .entry))) ⌝ }
+{
+    let y = packing::packed_size(p.n, 7);
+    let mut values = [0u8; 224];
+    expand::pack_values(ys, &mut values[..y]);
+    hashing::hash1(p.rate, 2, &values[..y], out);
+}
+
+// Both digests from the mask values u' and the mask exponents e'.
+fn from_mask(p: Params, us: &[u8], es: &[u8], salt: &[u8], i: usize, beta: Value, out: &mut [u8])
+    requires { ⌜ Sound p × Vector 127 (p .n) (now us) × Vector 7 (p .n) (now es) × (beta .0 < 127) × (length (now out) ≡ 2 * p .digest) ⌝ }
+    ensures { λ _.
+        ⌜ now (out .exit) ≡
+        digest p (string1 (now (us .entry)) (now (es .entry)) (now (salt .entry)) i) ++
+        digest p (string2 (response (beta .0) (now (us .entry)) (now (es .entry)))) ⌝ }
+{
+    let n = p.n;
+    let d = p.digest;
+    commit_mask(p, us, es, salt, i, &mut out[..d]);
+    let mut ys = [0u8; 256];
+    linear::respond(beta, us, es, &mut ys[..n]);
+    commit_response(p, &ys[..n], &mut out[d..]);
+}
+
+// Under the second challenge 1: the reply is the round's seed.
+fn from_seed(p: Params, salt: &[u8], i: usize, beta: Value, seed: &[u8], out: &mut [u8]) -> u8
+    requires { ⌜ Sound p × (beta .0 < 127) × (length (now out) ≡ 2 * p .digest) ⌝ }
+    ensures { λ r. ⌜ Recomputed p [] [] 1 (beta .0) (now (seed .entry)) (now (salt .entry)) i r (now (out .exit)) ⌝ }
+{
+    let n = p.n;
+    let mut es = [0u8; 264];
+    if !expand::mask_exponents(p, seed, salt, i, &mut es) {
+        return 2;
+    }
+    let mut us = [0u8; 264];
+    if !expand::mask_values(p, seed, salt, i, &mut us) {
+        return 2;
+    }
+    from_mask(p, &us[..n], &es[..n], salt, i, beta, out);
+    0
+}
+
+// s̃ = (2^σ times y) H transposed − β s.
+fn reply_syndrome(p: Params, vs: &[u8], s: &[u8], beta: Value, es: &[u8], ys: &[u8], out: &mut [u8])
+    requires { ⌜ Sound p × Vector 127 (matrixCount p) (now vs) × Vector 127 (p .n - p .k) (now s) × (beta .0 < 127) ⌝ }
+    requires { ⌜ Vector 7 (p .n) (now es) × Vector 127 (p .n) (now ys) × (length (now out) ≡ p .n - p .k) ⌝ }
+    ensures { λ _.
+        ⌜ now (out .exit) ≡
+        lessTimes (beta .0) (syndromeOf (p .k) (now (vs .entry)) (scaled (now (es .entry)) (now (ys .entry)))) (now (s .entry)) ⌝ }
+{
+    let n = p.n;
+    let k = p.k;
+    let m = n - k;
+    let mut scaled = [0u8; 256];
+    linear::scale(es, ys, &mut scaled[..n]);
+    let mut product = [0u8; 256];
+    linear::syndrome(k, vs, &scaled[..n], &mut product[..m]);
+    linear::subtract(beta, &product[..m], s, out);
+}
+
+// c0(i): s̃, and σ as it came packed.
+fn commit_syndrome(p: Params, xs: &[u8], exponents: &[u8], salt: &[u8], i: usize, out: &mut [u8])
+    requires { ⌜ Sound p × Vector 127 (p .n - p .k) (now xs) × (length (now out) ≡ p .digest) ⌝ }
+    ensures { λ _.
+        ⌜ now (out .exit) ≡
+        digest p (0 ∷ pack 7 (now (xs .entry)) ++ now (exponents .entry) ++ now (salt .entry) ++ roundNumber i) ⌝ }
+{
+    let x = packing::packed_size(p.n - p.k, 7);
+    let mut values = [0u8; 224];
+    expand::pack_values(xs, &mut values[..x]);
+    let number = expand::round_number(i);
+    hashing::hash4(p.rate, 0, &values[..x], exponents, salt, &number, out);
+}
+
+// Both digests from y and σ, whose packed forms are the reply's own bytes.
+fn from_fields(p: Params, xs: &[u8], reply: &[u8], salt: &[u8], i: usize, out: &mut [u8])
+    requires { ⌜ Sound p × Vector 127 (p .n - p .k) (now xs) × (valuesSize p ≤ length (now reply)) × (length (now out) ≡ 2 * p .digest) ⌝ }
+    ensures { λ _.
+        ⌜ now (out .exit) ≡
+        digest p (0 ∷ pack 7 (now (xs .entry)) ++ drop (valuesSize p) (now (reply .entry)) ++ now (salt .entry) ++ roundNumber i) ++
+        digest p (2 ∷ take (valuesSize p) (now (reply .entry))) ⌝ }
+{
+    let d = p.digest;
+    let cut = packing::packed_size(p.n, 7);
+    commit_syndrome(p, xs, &reply[cut..], salt, i, &mut out[..d]);
+    hashing::hash1(p.rate, 2, &reply[..cut], &mut out[d..]);
+}
+
+// Under the second challenge 0: the reply is y and σ, packed.
+fn from_values(
+    p: Params,
+    vs: &[u8],
+    s: &[u8],
+    salt: &[u8],
+    i: usize,
+    beta: Value,
+    reply: &[u8],
+    out: &mut [u8],
+) -> u8
+    requires { ⌜ Sound p × Vector 127 (matrixCount p) (now vs) × Vector 127 (p .n - p .k) (now s) × (beta .0 < 127) ⌝ }
+    requires { ⌜ (length (now reply) ≡ replySize p 0) × (length (now out) ≡ 2 * p .digest) ⌝ }
+    ensures { λ r.
+        ⌜ Recomputed p (now (vs .entry)) (now (s .entry)) 0 (beta .0) (now (reply .entry)) (now (salt .entry)) i r (now (out .exit)) ⌝ }
+{
+    let n = p.n;
+    let m = n - p.k;
+    let cut = packing::packed_size(n, 7);
+    let mut ys = [0u8; 256];
+    let values = packing::unpack_values(&reply[..cut], &mut ys[..n]);
+    if values != 0 {
+        return values;
+    }
+    let mut es = [0u8; 256];
+    let exponents = packing::unpack_exponents(&reply[cut..], &mut es[..n]);
+    if exponents != 0 {
+        return exponents;
+    }
+    let mut xs = [0u8; 256];
+    reply_syndrome(p, vs, s, beta, &es[..n], &ys[..n], &mut xs[..m]);
+    from_fields(p, &xs[..m], reply, salt, i, out);
+    0
+}
+
+// The answer is the reply's refusal; where that is 0, out is the commitment and h(i).
+pub fn recompute(
+    p: Params,
+    vs: &[u8],
+    s: &[u8],
+    salt: &[u8],
+    i: usize,
+    beta: Value,
+    b: u8,
+    reply: &[u8],
+    out: &mut [u8],
+) -> u8
+    requires { ⌜ Sound p × Vector 127 (matrixCount p) (now vs) × Vector 127 (p .n - p .k) (now s) × (beta .0 < 127) ⌝ }
+    requires { ⌜ (length (now reply) ≡ replySize p b) × (length (now out) ≡ 2 * p .digest) ⌝ }
+    ensures { λ r.
+        ⌜ Recomputed p (now (vs .entry)) (now (s .entry)) b (beta .0) (now (reply .entry)) (now (salt .entry)) i r (now (out .exit)) ⌝ }
+{
+    if b == 1 {
+        from_seed(p, salt, i, beta, reply, out)
+    } else {
+        from_values(p, vs, s, salt, i, beta, reply, out)
+    }
+}

@@ -1,0 +1,177 @@
+// The rounds of a signature, upward: each is recomputed from its reply, and its three digests go into sponges.
+use crate::reply;
+use field::Value;
+use parameters::Params;
+use shake::Sponge;
+ghost use mathlib.Core.Path.{_≡_};
+ghost use Prim.Native.Nat.{_+_, _-_, _*_, _<_, _≤_};
+ghost use mathlib.Core.List.{[]};
+ghost use lib.ListN.{length};
+ghost use Rattle.parameters.specs.Sound.{Sound};
+ghost use Rattle.shake.specs.Fold.{Absorbs};
+ghost use Rattle.scheme.specs.Key.{matrixCount};
+ghost use Rattle.scheme.specs.Round.{replySize};
+ghost use Rattle.scheme.specs.Sign.{partSize};
+ghost use Rattle.verifier.specs.Vector.{Vector};
+ghost use Rattle.verifier.specs.Rounds.{Stepped, AllReady, HoldAll, Compared, Ran, offset};
+
+// What goes in: all c0(i), all c1(i), all h(i).
+pub struct Sponges {
+    pub c0: Sponge,
+    pub c1: Sponge,
+    pub h: Sponge,
+}
+
+// The answer of the rounds so far, and the sponges after them.
+pub struct Rounds {
+    pub answer: u8,
+    pub sponges: Sponges,
+}
+
+// Bytes of the reply to a second challenge.
+pub fn reply_size(p: Params, b: u8) -> usize
+    requires { ⌜ Sound p ⌝ }
+    ensures { λ r. ⌜ r ≡ replySize p b ⌝ }
+{
+    if b == 1 {
+        p.seed
+    } else {
+        packing::packed_size(p.n, 7) + packing::packed_size(p.n, 3)
+    }
+}
+
+// The two commitments of a round, in the order c0(i), c1(i), and h(i).
+fn absorb_round(sponges: Sponges, c0: &[u8], c1: &[u8], h: &[u8]) -> Sponges
+    requires { ⌜ AllReady sponges ⌝ }
+    ensures { λ r. ⌜ Absorbs (sponges .c0) (now (c0 .entry)) (r .c0)
+        × Absorbs (sponges .c1) (now (c1 .entry)) (r .c1) × Absorbs (sponges .h) (now (h .entry)) (r .h) ⌝ }
+{
+    Sponges {
+        c0: shake::absorb(sponges.c0, c0),
+        c1: shake::absorb(sponges.c1, c1),
+        h: shake::absorb(sponges.h, h),
+    }
+}
+
+// Round i, from its part of the signature.
+fn step(
+    p: Params,
+    vs: &[u8],
+    s: &[u8],
+    salt: &[u8],
+    i: usize,
+    beta: Value,
+    b: u8,
+    part: &[u8],
+    sponges: Sponges,
+) -> Rounds
+    requires { ⌜ Sound p × Vector 127 (matrixCount p) (now vs) × Vector 127 (p .n - p .k) (now s) × (beta .0 < 127) ⌝ }
+    requires { ⌜ (length (now part) ≡ partSize p b) × AllReady sponges ⌝ }
+    ensures { λ r. ⌜ Stepped p (now (vs .entry)) (now (s .entry)) (now (salt .entry)) i (beta .0) b (now (part .entry)) sponges r ⌝ }
+{
+    let d = p.digest;
+    let end = d + d;
+    let cut = reply_size(p, b);
+    let mut out = [0u8; 128];
+    let answer = reply::recompute(p, vs, s, salt, i, beta, b, &part[..cut], &mut out[..end]);
+    if answer != 0 {
+        return Rounds { answer, sponges };
+    }
+    let made = &out[..end];
+    let given = &made[..d];
+    let h = &made[d..];
+    let brought = &part[cut..];
+    if b == 1 {
+        let after = absorb_round(sponges, brought, given, h);
+        Rounds {
+            answer: 0,
+            sponges: after,
+        }
+    } else {
+        let after = absorb_round(sponges, given, brought, h);
+        Rounds {
+            answer: 0,
+            sponges: after,
+        }
+    }
+}
+
+// The three sponges with their tags.
+fn begin(p: Params) -> Sponges
+    requires { ⌜ Sound p ⌝ }
+    ensures { λ r. ⌜ HoldAll r (p .rate) [] [] [] ⌝ }
+{
+    let rate = p.rate;
+    Sponges {
+        c0: hashing::tagged(rate, 3),
+        c1: hashing::tagged(rate, 4),
+        h: hashing::tagged(rate, 6),
+    }
+}
+
+// All rounds, up to the lowest that refuses.
+pub fn run(
+    p: Params,
+    vs: &[u8],
+    s: &[u8],
+    salt: &[u8],
+    betas: &[u8],
+    bs: &[u8],
+    rounds: &[u8],
+) -> Rounds
+    requires { ⌜ Sound p × Vector 127 (matrixCount p) (now vs) × Vector 127 (p .n - p .k) (now s) ⌝ }
+    requires { ⌜ Vector 127 (p .t) (now betas) × (length (now bs) ≡ p .t)
+        × (offset p (now vs) (now s) (now salt) (now rounds) (now betas) (now bs) (p .t) ≡ length (now rounds)) ⌝ }
+    ensures { λ r. ⌜ Ran p (now (vs .entry)) (now (s .entry)) (now (salt .entry)) (now (rounds .entry)) (now (betas .entry)) (now (bs .entry)) r ⌝ }
+{
+    let t = p.t;
+    let d = p.digest;
+    let mut sponges = begin(p);
+    let mut at = 0;
+    let mut j = 0;
+    while j < t {
+        let b = bs[j];
+        let end = at + reply_size(p, b) + d;
+        let next = step(
+            p,
+            vs,
+            s,
+            salt,
+            j + 1,
+            Value(betas[j]),
+            b,
+            &rounds[at..end],
+            sponges,
+        );
+        if next.answer != 0 {
+            return next;
+        }
+        sponges = next.sponges;
+        at = end;
+        j += 1;
+    }
+    Rounds { answer: 0, sponges }
+}
+
+// c and h against what the sponges give.
+pub fn compare(p: Params, sponges: Sponges, c: &[u8], h: &[u8]) -> u8
+    requires { ⌜ Sound p × AllReady sponges ⌝ }
+    ensures { λ r. ⌜ Compared p sponges (now (c .entry)) (now (h .entry)) r ⌝ }
+{
+    let d = p.digest;
+    let mut c0 = [0u8; 64];
+    shake::squeeze(sponges.c0, &mut c0[..d]);
+    let mut c1 = [0u8; 64];
+    shake::squeeze(sponges.c1, &mut c1[..d]);
+    let mut made = [0u8; 64];
+    hashing::hash2(p.rate, 5, &c0[..d], &c1[..d], &mut made[..d]);
+    if !buffers::equal(c, &made[..d]) {
+        return 4;
+    }
+    let mut hs = [0u8; 64];
+    shake::squeeze(sponges.h, &mut hs[..d]);
+    if !buffers::equal(h, &hs[..d]) {
+        return 4;
+    }
+    0
+}
