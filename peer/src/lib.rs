@@ -10,6 +10,7 @@ pub mod bits;
 pub mod draws;
 pub mod entries;
 pub mod fast;
+pub mod harness;
 pub mod keccak;
 pub mod openssl;
 pub mod refusal;

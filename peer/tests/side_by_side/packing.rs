@@ -1,7 +1,7 @@
 //! Packing and unpacking of values and exponents, at many counts.
 
-use crate::harness::Comparison;
 use peer::bits::{lay, packed_size, Kind, EXPONENT, VALUE};
+use peer::harness::Comparison;
 use peer::rng::Rng;
 use peer::{archive, entries};
 

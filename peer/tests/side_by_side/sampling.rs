@@ -1,8 +1,8 @@
 //! The draws of values, exponents and first challenges from a lent block.
 
-use crate::harness::Comparison;
 use peer::bits::{field_count, lay};
 use peer::draws::{Draw, EXPONENTS, FIRST_CHALLENGES, VALUES};
+use peer::harness::Comparison;
 use peer::rng::Rng;
 use peer::sizes::CATEGORY_1;
 use peer::{archive, entries};

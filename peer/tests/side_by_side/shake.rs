@@ -1,6 +1,6 @@
 //! SHAKE128 beside the independent Keccak, and both beside Python's hashlib where there is one.
 
-use crate::harness::Comparison;
+use peer::harness::Comparison;
 use peer::keccak::{shake, SHAKE128_RATE};
 use peer::rng::Rng;
 use peer::{archive, entries};

@@ -1,8 +1,8 @@
 //! The draw of the second challenge.
 
-use crate::harness::Comparison;
 use crate::sampling::{scattered, wrong_sizes};
 use peer::draws::shuffle_limit;
+use peer::harness::Comparison;
 use peer::rng::Rng;
 use peer::sizes::CATEGORY_1;
 use peer::{archive, entries};
