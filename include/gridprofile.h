@@ -34,6 +34,17 @@ extern "C" {
 #define GRIDPROFILE_ROUNDS 163           /* rounds of a signature */
 #define GRIDPROFILE_ONES 85              /* rounds whose second challenge is 1 */
 
+/* Seeds, keys and signatures, in bytes. */
+#define GRIDPROFILE_PRIVATE_SEED_BYTES 32
+#define GRIDPROFILE_MASTER_SEED_BYTES 16
+#define GRIDPROFILE_SALT_BYTES 32
+#define GRIDPROFILE_DIGEST_BYTES 32
+#define GRIDPROFILE_KEY_BYTES 77
+#define GRIDPROFILE_SIGNATURE_BYTES 19152
+#define GRIDPROFILE_MESSAGE_MAX_BYTES 65536
+#define GRIDPROFILE_REPLY_0_BYTES 160    /* a round's reply to second challenge 0 */
+#define GRIDPROFILE_REPLY_1_BYTES 16     /* and to 1 */
+
 /* Blocks that numbers are drawn from, in bytes. */
 #define GRIDPROFILE_MATRIX_BLOCK_BYTES 3500
 #define GRIDPROFILE_EXPONENTS_BLOCK_BYTES 96
@@ -100,6 +111,46 @@ uint8_t gridprofile_sample_first_challenges(const uint8_t *block, size_t block_l
  * gridprofile_sample_matrix does. */
 uint8_t gridprofile_sample_second_challenge(const uint8_t *block, size_t block_len, uint8_t *out,
                                             size_t out_len);
+
+/* Makes the public key of a private seed of GRIDPROFILE_PRIVATE_SEED_BYTES into
+ * GRIDPROFILE_KEY_BYTES: the public seed, then the packed syndrome. Refuses with 1 where either
+ * length is another, then with 2 where one of the key's draws is short. */
+uint8_t gridprofile_make_key(const uint8_t *private_seed, size_t private_seed_len, uint8_t *key,
+                             size_t key_len);
+
+/* Signs a message of at most GRIDPROFILE_MESSAGE_MAX_BYTES, also an empty one, into
+ * GRIDPROFILE_SIGNATURE_BYTES. The master seed (GRIDPROFILE_MASTER_SEED_BYTES) and the salt
+ * (GRIDPROFILE_SALT_BYTES) must be drawn afresh for each signature, and the master seed kept
+ * secret; the library draws neither. Refuses with 1 where a length is another, then with 2 where a
+ * draw is short: of the key, of the rounds, of the first or of the second challenges. */
+uint8_t gridprofile_sign(const uint8_t *private_seed, size_t private_seed_len,
+                         const uint8_t *master_seed, size_t master_seed_len, const uint8_t *salt,
+                         size_t salt_len, const uint8_t *message, size_t message_len,
+                         uint8_t *signature, size_t signature_len);
+
+/* Checks a signature of a message under a public key: 0 means that it holds. Refuses with 1 where
+ * key or signature have another length than theirs or the message is too long; with 3 where the key
+ * has a bad field; with 2 where a draw of the matrix, of the first or of the second challenges is
+ * short; then, from the first round on, with 3 where a round has a bad field and with 2 where a draw
+ * from its seed is short; last with 4 where one of the two digests over all rounds differs. */
+uint8_t gridprofile_verify(const uint8_t *key, size_t key_len, const uint8_t *message,
+                           size_t message_len, const uint8_t *signature, size_t signature_len);
+
+/* Examines one round: 0 means that the reply opens the commitment which belongs to the second
+ * challenge, and that its response has the digest given. The numbers may be anything. Salt, both
+ * commitments and the digest of the response have 32 bytes; the reply has GRIDPROFILE_REPLY_0_BYTES
+ * under second challenge 0 (response, then transformation) and GRIDPROFILE_REPLY_1_BYTES under 1
+ * (the round's seed). Refuses with 1 where a length is another (under any other challenge the
+ * reply's is not looked at); with 3 where the key has a bad field, round is not 1 to
+ * GRIDPROFILE_ROUNDS, first_challenge not 1 to 126 or second_challenge not 0 or 1; with 2 where the
+ * draw of the matrix is short; with 3 where the reply has a bad field or with 2 where a draw from
+ * its seed is short; last with 4 where commitment or response differs. */
+uint8_t gridprofile_verify_round(const uint8_t *key, size_t key_len, const uint8_t *salt,
+                                 size_t salt_len, uint32_t round, const uint8_t *commitment_0,
+                                 size_t commitment_0_len, const uint8_t *commitment_1,
+                                 size_t commitment_1_len, uint32_t first_challenge,
+                                 const uint8_t *response, size_t response_len,
+                                 uint32_t second_challenge, const uint8_t *reply, size_t reply_len);
 
 #ifdef __cplusplus
 }

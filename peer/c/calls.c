@@ -75,9 +75,32 @@ static void second_challenge(void)
            wanted, sizeof out);
 }
 
+/* A message signed and checked, whole and with a byte of its signature changed, and one round that
+ * opens nothing. */
+static void signing(void)
+{
+    static const uint8_t seed[GRIDPROFILE_PRIVATE_SEED_BYTES], master[GRIDPROFILE_MASTER_SEED_BYTES];
+    static const uint8_t salt[GRIDPROFILE_SALT_BYTES], message[3] = {1, 2, 3};
+    static uint8_t key[GRIDPROFILE_KEY_BYTES], signature[GRIDPROFILE_SIGNATURE_BYTES];
+    int answer = gridprofile_make_key(seed, sizeof seed, key, sizeof key);
+    expect("gridprofile_make_key", answer, GRIDPROFILE_DONE, key, key, 0);
+    answer = gridprofile_sign(seed, sizeof seed, master, sizeof master, salt, sizeof salt, message, 3,
+                              signature, sizeof signature);
+    expect("gridprofile_sign", answer, GRIDPROFILE_DONE, signature, salt, sizeof salt);
+    answer = gridprofile_verify(key, sizeof key, message, 3, signature, sizeof signature);
+    expect("gridprofile_verify", answer, GRIDPROFILE_DONE, key, key, 0);
+    signature[sizeof signature - 1] ^= 1;
+    answer = gridprofile_verify(key, sizeof key, message, 3, signature, sizeof signature);
+    expect("gridprofile_verify of a damaged signature", answer, GRIDPROFILE_MISMATCH, key, key, 0);
+    answer = gridprofile_verify_round(key, sizeof key, salt, sizeof salt, 1, salt, sizeof salt, salt,
+                                      sizeof salt, 1, salt, sizeof salt, 1, master, sizeof master);
+    expect("gridprofile_verify_round", answer, GRIDPROFILE_MISMATCH, key, key, 0);
+}
+
 int main(void)
 {
     packing();
+    signing();
     hashing();
     sampling("gridprofile_sample_matrix", gridprofile_sample_matrix, GRIDPROFILE_MATRIX_BLOCK_BYTES,
              GRIDPROFILE_MATRIX_VALUES, 0);

@@ -115,21 +115,39 @@ pub fn sign(
 }
 
 fn signed(s: &Sizes, private_seed: &[u8], master_seed: &[u8], salt: &[u8], message: &[u8]) -> Result<Vec<u8>, Refusal> {
-    let secret = secret_key(s, private_seed)?;
+    let rounds = committed(s, &secret_key(s, private_seed)?, master_seed, salt)?;
+    answered(s, &rounds, salt, message, &rounds_commitment(s, &rounds), None)
+}
+
+/// Every round before the challenges.
+fn committed(s: &Sizes, secret: &SecretKey, master_seed: &[u8], salt: &[u8]) -> Result<Vec<Round>, Refusal> {
     let seeds = s.bytes_from(&strings::round_seeds(master_seed, salt), s.t * s.round_seed);
     let seed = |i: usize| &seeds[(i - 1) * s.round_seed..i * s.round_seed];
-    let rounds: Vec<Round> = (1..=s.t).map(|i| commit(s, &secret, seed(i), salt, i)).collect::<Result<_, _>>()?;
+    (1..=s.t).map(|i| commit(s, secret, seed(i), salt, i)).collect()
+}
 
+fn rounds_commitment(s: &Sizes, rounds: &[Round]) -> Vec<u8> {
     let all = |part: fn(&Round) -> &Vec<u8>| rounds.iter().flat_map(|r| part(r).clone()).collect::<Vec<u8>>();
-    let c = joint_commitment(s, &all(|r| &r.commitment_0), &all(|r| &r.commitment_1));
-    let first = draw_first_challenges(s, &c, salt, message)?;
+    joint_commitment(s, &all(|r| &r.commitment_0), &all(|r| &r.commitment_1))
+}
+
+/// The signature with this c. An honest signer has h from its responses; `h` is what a forger claims.
+fn answered(
+    s: &Sizes,
+    rounds: &[Round],
+    salt: &[u8],
+    message: &[u8],
+    c: &[u8],
+    h: Option<&[u8]>,
+) -> Result<Vec<u8>, Refusal> {
+    let first = draw_first_challenges(s, c, salt, message)?;
     let respond = |(round, &beta): (&Round, &u8)| response(beta, &round.mask.values, &round.mask.exponents);
     let responses: Vec<Vec<u8>> = rounds.iter().zip(&first).map(respond).collect();
     let digests: Vec<u8> = responses.iter().flat_map(|y| s.digest_of(&strings::response(y))).collect();
-    let h = s.digest_of(&strings::all_responses(&digests));
-    let second = draw_second_challenge(s, &c, &first, &h, salt, message)?;
+    let h = h.map_or_else(|| s.digest_of(&strings::all_responses(&digests)), <[u8]>::to_vec);
+    let second = draw_second_challenge(s, c, &first, &h, salt, message)?;
 
-    let mut signature = [salt, &c, &h].concat();
+    let mut signature = [salt, c, &h].concat();
     for ((round, y), &challenge) in rounds.iter().zip(&responses).zip(&second) {
         signature.extend(if challenge == 1 {
             [&round.seed[..], &round.commitment_0].concat()
@@ -177,6 +195,29 @@ fn open(s: &Sizes, key: &PublicKey, at: &Challenged, reply: &[u8]) -> Result<Ope
     Ok(Opened { commitment: s.digest_of(&string), response: s.digest_of(&strings::response(&y)) })
 }
 
+/// A signature's salt, c and h, and the parts of its rounds.
+struct Cut<'a> {
+    salt: &'a [u8],
+    c: &'a [u8],
+    h: &'a [u8],
+    rest: &'a [u8],
+}
+
+fn cut<'a>(s: &Sizes, signature: &'a [u8]) -> Cut<'a> {
+    let (salt, rest) = signature.split_at(s.salt);
+    let (c, rest) = rest.split_at(s.digest);
+    let (h, rest) = rest.split_at(s.digest);
+    Cut { salt, c, h, rest }
+}
+
+/// The first and the second challenges that a signature of the right size draws.
+pub fn challenges(s: &Sizes, message: &[u8], signature: &[u8]) -> Result<(Vec<u8>, Vec<u8>), Refusal> {
+    let Cut { salt, c, h, .. } = cut(s, signature);
+    let first = draw_first_challenges(s, c, salt, message)?;
+    let second = draw_second_challenge(s, c, &first, h, salt, message)?;
+    Ok((first, second))
+}
+
 /// Checks a signature: 1, key fields (3), V (2), first challenges (2), second challenge (2), rounds
 /// upward (3 or 2), then 4.
 pub fn verify(s: &Sizes, key: &[u8], message: &[u8], signature: &[u8]) -> u8 {
@@ -189,11 +230,8 @@ fn verified(s: &Sizes, key: &[u8], message: &[u8], signature: &[u8]) -> Result<(
     let (public_seed, packed) = key.split_at(s.key_seed);
     let syndrome = unpack(VALUE, packed, s.rows())?;
     let key = PublicKey { matrix: draw_matrix(s, public_seed)?, syndrome };
-    let (salt, rest) = signature.split_at(s.salt);
-    let (c, rest) = rest.split_at(s.digest);
-    let (h, mut rest) = rest.split_at(s.digest);
-    let first = draw_first_challenges(s, c, salt, message)?;
-    let second = draw_second_challenge(s, c, &first, h, salt, message)?;
+    let Cut { salt, c, h, mut rest } = cut(s, signature);
+    let (first, second) = challenges(s, message, signature)?;
 
     let (mut all_0, mut all_1, mut digests) = (Vec::new(), Vec::new(), Vec::new());
     for i in 1..=s.t {
@@ -213,7 +251,7 @@ fn verified(s: &Sizes, key: &[u8], message: &[u8], signature: &[u8]) -> Result<(
 }
 
 /// What the round examiner is given.
-#[derive(Clone)]
+#[derive(Clone, Debug)]
 pub struct RoundCase {
     pub key: Vec<u8>,
     pub salt: Vec<u8>,
@@ -254,5 +292,6 @@ fn round_verified(s: &Sizes, case: &RoundCase) -> Result<(), Refusal> {
 }
 
 pub mod cases;
+pub mod forge;
 #[cfg(test)]
 mod tests;

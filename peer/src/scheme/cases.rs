@@ -73,6 +73,51 @@ impl Committed {
     }
 }
 
+/// One fault in the examiner's input.
+pub type Spoil = fn(&mut RoundCase);
+
+/// Faults of the examiner's input, each with its refusal, in the order in which they are looked at.
+const FAULTS: [(u8, Spoil); 15] = [
+    (1, |c| c.key.push(0)),
+    (1, |c| c.salt.truncate(1)),
+    (1, |c| c.commitment_0.clear()),
+    (1, |c| c.commitment_1.push(0)),
+    (1, |c| c.response.push(0)),
+    (1, |c| c.reply.push(0)),
+    (3, |c| *c.key.last_mut().unwrap() |= 0x80),
+    (3, |c| c.round = 0),
+    (3, |c| c.round = 60_000),
+    (3, |c| c.first_challenge = 0),
+    (3, |c| c.first_challenge = 127),
+    (3, |c| match c.second_challenge {
+        0 => c.reply[0] |= 0x7F,
+        _ => c.first_challenge = u32::MAX,
+    }),
+    (4, |c| c.response[0] ^= 1),
+    (4, |c| c.commitment_0[0] ^= 1),
+    (4, |c| c.commitment_1[0] ^= 1),
+];
+
+/// An honest case with each fault alone and with each two of them, and the answer that is due. The
+/// commitment that the reply does not open is not looked at.
+pub fn faulty_rounds(honest: &RoundCase) -> Vec<(RoundCase, u8)> {
+    let unopened = if honest.second_challenge == 1 { 13 } else { 14 };
+    let faults: Vec<&(u8, Spoil)> = FAULTS.iter().enumerate().filter(|(at, _)| *at != unopened).map(|x| x.1).collect();
+    let mut cases = Vec::new();
+    for (at, (refusal, spoil)) in faults.iter().enumerate() {
+        let mut one = honest.clone();
+        spoil(&mut one);
+        cases.push((one, *refusal));
+        for (_, later) in &faults[at + 1..] {
+            let mut two = honest.clone();
+            later(&mut two);
+            spoil(&mut two);
+            cases.push((two, *refusal));
+        }
+    }
+    cases
+}
+
 pub fn flipped(bytes: &[u8], bit: usize) -> Vec<u8> {
     let mut out = bytes.to_vec();
     out[bit / 8] ^= 1 << (bit % 8);
@@ -101,7 +146,7 @@ fn missized(rng: &mut Rng, bytes: &[u8]) -> Vec<u8> {
 }
 
 /// A string with, now and then, one bit flipped, all bits of one byte set, or other bytes throughout.
-fn spoilt(rng: &mut Rng, bytes: &[u8]) -> Vec<u8> {
+pub fn spoilt(rng: &mut Rng, bytes: &[u8]) -> Vec<u8> {
     let mut out = bytes.to_vec();
     match rng.below(5) {
         0 if !out.is_empty() => out = flipped(bytes, rng.below(8 * bytes.len())),
@@ -147,7 +192,8 @@ fn verify_line(s: &Sizes, rng: &mut Rng) -> String {
     format!("verify {} {} {} {answer}", hex(&key), hex(&made.message), hex(&signature))
 }
 
-fn round_line(s: &Sizes, rng: &mut Rng) -> String {
+/// An honest reply, or one with some faults.
+pub fn round_case(s: &Sizes, rng: &mut Rng) -> RoundCase {
     let first = 1 + rng.below(126) as u8;
     let second = rng.below(2) as u32;
     let mut c = Committed::draw(s, rng).case(s, first, second);
@@ -167,6 +213,11 @@ fn round_line(s: &Sizes, rng: &mut Rng) -> String {
             _ => (),
         }
     }
+    c
+}
+
+fn round_line(s: &Sizes, rng: &mut Rng) -> String {
+    let c = round_case(s, rng);
     let answer = verify_round(s, &c);
     let (commitments, numbers) = (hex(&c.commitment_0) + " " + &hex(&c.commitment_1), c.second_challenge);
     let head = format!("verify_round {} {} {} {commitments}", hex(&c.key), hex(&c.salt), c.round);

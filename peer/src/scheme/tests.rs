@@ -1,7 +1,7 @@
 //! The scheme agrees with itself: what it signs it accepts, each reply passes the examiner, and every
 //! refusal comes in its place.
 
-use super::cases::{attempt, flipped, Committed, Signed};
+use super::cases::{attempt, faulty_rounds, flipped, Committed, Signed, Spoil};
 use super::*;
 use crate::rng::Rng;
 use crate::sizes::{CATEGORY_1, CATEGORY_3, TINY};
@@ -86,44 +86,14 @@ fn honest_replies_pass_and_open_the_key() {
     }
 }
 
-type Spoil = fn(&mut RoundCase);
-
-/// Faults of the examiner's input, each with its refusal, in the order in which they are looked at.
-const FAULTS: [(u8, Spoil); 14] = [
-    (1, |c| c.key.push(0)),
-    (1, |c| c.salt.truncate(1)),
-    (1, |c| c.commitment_0.clear()),
-    (1, |c| c.commitment_1.push(0)),
-    (1, |c| c.response.push(0)),
-    (1, |c| c.reply.push(0)),
-    (3, |c| *c.key.last_mut().unwrap() |= 0x80),
-    (3, |c| c.round = 0),
-    (3, |c| c.round = 60_000),
-    (3, |c| c.first_challenge = 0),
-    (3, |c| c.first_challenge = 127),
-    (4, |c| c.commitment_0[0] ^= 1),
-    (4, |c| c.commitment_1[0] ^= 1),
-    (4, |c| c.response[0] ^= 1),
-];
-
 #[test]
 fn the_examiner_refuses_in_order() {
     let mut rng = Rng::new(14);
     let s = CATEGORY_1;
     let replies = Committed::draw(&s, &mut rng);
     for second in [0, 1] {
-        // the commitment that the reply does not open is not looked at
-        let open = FAULTS.iter().enumerate().filter(|(at, _)| *at != 12 - second as usize);
-        let faults: Vec<&(u8, Spoil)> = open.map(|(_, fault)| fault).collect();
-        for (at, (refusal, spoil)) in faults.iter().enumerate() {
-            assert_eq!(answer(&s, &replies, 9, second, spoil), *refusal, "fault {at} under {second}");
-            for (_, later) in &faults[at + 1..] {
-                let both = |c: &mut RoundCase| {
-                    later(c);
-                    spoil(c);
-                };
-                assert_eq!(answer(&s, &replies, 9, second, both), *refusal, "fault {at} first under {second}");
-            }
+        for (case, wanted) in faulty_rounds(&replies.case(&s, 9, second)) {
+            assert_eq!(verify_round(&s, &case), wanted, "{case:02x?}");
         }
     }
 }
