@@ -45,6 +45,11 @@ extern "C" {
 #define GRIDPROFILE_REPLY_0_BYTES 160    /* a round's reply to second challenge 0 */
 #define GRIDPROFILE_REPLY_1_BYTES 16     /* and to 1 */
 
+/* Lines and the images of profiles, in bytes. */
+#define GRIDPROFILE_LINE_MIN_BYTES 42
+#define GRIDPROFILE_LINE_MAX_BYTES 72
+#define GRIDPROFILE_PROFILE_IMAGE_BYTES 64
+
 /* Blocks that numbers are drawn from, in bytes. */
 #define GRIDPROFILE_MATRIX_BLOCK_BYTES 3500
 #define GRIDPROFILE_EXPONENTS_BLOCK_BYTES 96
@@ -151,6 +156,23 @@ uint8_t gridprofile_verify_round(const uint8_t *key, size_t key_len, const uint8
                                  size_t commitment_1_len, uint32_t first_challenge,
                                  const uint8_t *response, size_t response_len,
                                  uint32_t second_challenge, const uint8_t *reply, size_t reply_len);
+
+/* Reads a profile line into the image of its profile, GRIDPROFILE_PROFILE_IMAGE_BYTES: a byte 1, the
+ * country's two letters, the class letter, then numbers of four bytes each, low byte first: serial,
+ * nominal volts, hertz, and for each of over-voltage, under-voltage, over-frequency and
+ * under-frequency its kind (0 a voltage share, 1 a frequency above nominal, 2 one below), its limit
+ * without sign, and its delay. Refuses with 1 where the image has another length or the line has not
+ * GRIDPROFILE_LINE_MIN_BYTES to GRIDPROFILE_LINE_MAX_BYTES, then with 5 where the line breaks a
+ * rule; bytes after its line feed do. */
+uint8_t gridprofile_read_line(const uint8_t *line, size_t line_len, uint8_t *profile,
+                              size_t profile_len);
+
+/* Writes the line of a profile's image at the front of GRIDPROFILE_LINE_MAX_BYTES lent bytes, and
+ * its length to *length; bytes past it are not touched. The image's first byte is not looked at, and
+ * a kind over 1 is a frequency below nominal. Refuses with 1 where either length is another, then
+ * with 5 where the profile breaks a rule; *length is then as it was. */
+uint8_t gridprofile_write_line(const uint8_t *profile, size_t profile_len, uint8_t *line,
+                               size_t line_len, size_t *length);
 
 #ifdef __cplusplus
 }

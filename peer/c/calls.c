@@ -97,9 +97,24 @@ static void signing(void)
     expect("gridprofile_verify_round", answer, GRIDPROFILE_MISMATCH, key, key, 0);
 }
 
+/* A line read and written again. */
+static void lines(void)
+{
+    static const char line[] = "GP1,XA,B,12,230,50,1150,100,800,1500,1500,100,-2500,100\n";
+    uint8_t profile[GRIDPROFILE_PROFILE_IMAGE_BYTES], out[GRIDPROFILE_LINE_MAX_BYTES];
+    const uint8_t head[5] = {1, 'X', 'A', 'B', 12};
+    size_t length = 0;
+    int answer = gridprofile_read_line((const uint8_t *)line, sizeof line - 1, profile, sizeof profile);
+    expect("gridprofile_read_line", answer, GRIDPROFILE_DONE, profile, head, sizeof head);
+    answer = gridprofile_write_line(profile, sizeof profile, out, sizeof out, &length);
+    expect("gridprofile_write_line", answer, GRIDPROFILE_DONE, out, (const uint8_t *)line, length);
+    expect("its length", length == sizeof line - 1, 1, out, out, 0);
+}
+
 int main(void)
 {
     packing();
+    lines();
     signing();
     hashing();
     sampling("gridprofile_sample_matrix", gridprofile_sample_matrix, GRIDPROFILE_MATRIX_BLOCK_BYTES,

@@ -3,7 +3,8 @@
 use crate::bits::{pack, packed_size, unpack, Kind, EXPONENT, VALUE};
 use crate::draws::{sample, shuffle, Draw, EXPONENTS, FIRST_CHALLENGES, VALUES};
 use crate::keccak::{shake, SHAKE128_RATE};
-use crate::refusal::{answer, demand, BAD_SIZE};
+use crate::line::{image, meaning, read_line as read, write_line as written, IMAGE, LONGEST};
+use crate::refusal::{answer, answer_length, demand, BAD_SIZE};
 use crate::sizes::{Sizes, CATEGORY_1};
 
 fn pack_entry(kind: Kind, numbers: &[u8], packed: &mut [u8]) -> u8 {
@@ -58,4 +59,20 @@ pub fn sample_second_challenge(block: &[u8], out: &mut [u8]) -> u8 {
 /// Never refuses.
 pub fn shake128(input: &[u8], out: &mut [u8]) {
     out.copy_from_slice(&shake(SHAKE128_RATE, input, out.len()));
+}
+
+/// Reads a line into a profile's image.
+pub fn read_line(line: &[u8], profile: &mut [u8]) -> u8 {
+    let sized = demand(profile.len() == IMAGE, BAD_SIZE);
+    answer(sized.and_then(|()| read(line)).map(|read| image(&read).to_vec()), profile)
+}
+
+/// Writes the line of an image's profile; the length comes back, or as it was.
+pub fn write_line(profile: &[u8], out: &mut [u8], length: usize) -> (u8, usize) {
+    let make = || {
+        let image: &[u8; IMAGE] = profile.try_into().map_err(|_| BAD_SIZE)?;
+        demand(out.len() == LONGEST, BAD_SIZE)?;
+        written(&meaning(image))
+    };
+    answer_length(make(), out, length)
 }

@@ -12,6 +12,7 @@ pub mod entries;
 pub mod fast;
 pub mod harness;
 pub mod keccak;
+pub mod line;
 pub mod openssl;
 pub mod refusal;
 pub mod rng;

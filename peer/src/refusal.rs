@@ -7,6 +7,7 @@ pub const BAD_SIZE: Refusal = 1;
 pub const SHORT_DRAW: Refusal = 2;
 pub const BAD_FIELD: Refusal = 3;
 pub const MISMATCH: Refusal = 4;
+pub const BAD_PROFILE: Refusal = 5;
 
 /// Refuses by `refusal` unless `ok`.
 pub fn demand(ok: bool, refusal: Refusal) -> Result<(), Refusal> {
@@ -25,5 +26,17 @@ pub fn answer(made: Result<Vec<u8>, Refusal>, out: &mut [u8]) -> u8 {
             0
         }
         Err(refusal) => refusal,
+    }
+}
+
+/// Answers for an entry that writes at the front of `out` and gives the length: past it, and after a
+/// refusal, everything stays as it was.
+pub fn answer_length(made: Result<Vec<u8>, Refusal>, out: &mut [u8], length: usize) -> (u8, usize) {
+    match made {
+        Ok(bytes) => {
+            out[..bytes.len()].copy_from_slice(&bytes);
+            (0, bytes.len())
+        }
+        Err(refusal) => (refusal, length),
     }
 }

@@ -1,6 +1,7 @@
 //! The constants of the C header are the sizes and numbers of the independent program.
 
 use peer::bits::{packed_size, EXPONENT, VALUE};
+use peer::line;
 use peer::refusal;
 use peer::sizes::CATEGORY_1;
 use std::collections::BTreeMap;
@@ -33,6 +34,9 @@ fn expected() -> BTreeMap<String, usize> {
         ("MESSAGE_MAX_BYTES", s.message),
         ("REPLY_0_BYTES", s.reply(0)),
         ("REPLY_1_BYTES", s.reply(1)),
+        ("LINE_MIN_BYTES", line::SHORTEST),
+        ("LINE_MAX_BYTES", line::LONGEST),
+        ("PROFILE_IMAGE_BYTES", line::IMAGE),
         ("MATRIX_BLOCK_BYTES", s.matrix_block),
         ("EXPONENTS_BLOCK_BYTES", s.exponents_block),
         ("MASK_VALUES_BLOCK_BYTES", s.mask_values_block),

@@ -1,0 +1,160 @@
+//! Lines read and written through C, beside the independent program: the answer, the whole image,
+//! the whole buffer and the length.
+
+mod archive;
+
+use peer::harness::{Comparison, Tally, LEAST};
+use peer::line::cases::{any_image, fields, joined, texts, valid};
+use peer::line::{image, LONGEST};
+use peer::rng::Rng;
+use peer::{entries, line};
+
+const IMAGE: usize = line::IMAGE;
+
+fn reader() -> Comparison {
+    Comparison::new("read_line", archive::read_line, entries::read_line)
+}
+
+fn line_of(rng: &mut Rng) -> Vec<u8> {
+    line::write_line(&valid(rng)).expect("valid")
+}
+
+/// Valid lines, often at the ends of several ranges.
+#[test]
+fn valid_lines() {
+    let (mut c, mut rng) = (reader(), Rng::new(0x6C69_6E65));
+    for _ in 0..LEAST {
+        c.demand(&line_of(&mut rng), IMAGE, 0);
+    }
+    c.finish(&[0]);
+}
+
+/// Each field in turn holds each end of its range, what stands beside it, and other spellings; then
+/// two fields at once.
+#[test]
+fn every_boundary() {
+    let (mut c, mut rng) = (reader(), Rng::new(0x626F_756E));
+    while c.missing() > 0 {
+        let whole = fields(&valid(&mut rng));
+        for at in 0..whole.len() {
+            for text in texts(at) {
+                let mut one = whole.clone();
+                one[at] = text;
+                c.agree(&joined(&one), IMAGE);
+                let second = rng.below(whole.len());
+                let choice = texts(second);
+                one[second] = choice[rng.below(choice.len())].clone();
+                c.agree(&joined(&one), IMAGE);
+            }
+        }
+    }
+    c.finish(&[0, 1, 5]);
+}
+
+/// Every byte of some lines changed to every other value, the shortest and the longest among them.
+#[test]
+fn every_byte() {
+    let (mut c, mut rng) = (reader(), Rng::new(0x6279_7465));
+    let mut lines = vec![
+        b"GP1,AA,A,1,100,50,1001,20,1,20,1,20,-1,20\n".to_vec(),
+        b"GP1,ZZ,D,4294967295,1000,60,1500,60000,999,60000,5000,60000,-5000,60000\n".to_vec(),
+    ];
+    while c.missing() > 0 {
+        let line = lines.pop().unwrap_or_else(|| line_of(&mut rng));
+        for at in 0..line.len() {
+            for byte in 0..=255 {
+                let mut other = line.clone();
+                other[at] = byte;
+                c.agree(&other, IMAGE);
+            }
+        }
+    }
+    c.finish(&[0, 5]);
+}
+
+/// One edit of a line: a byte or a field taken out or put in, bytes exchanged, or noise.
+fn edited(rng: &mut Rng, mut line: Vec<u8>) -> Vec<u8> {
+    let at = rng.below(line.len());
+    let usual = b"0123456789,-+\nAGP1 \r\"";
+    match rng.below(7) {
+        0 => line.truncate(at),
+        1 => drop(line.remove(at)),
+        2 => line.insert(at, usual[rng.below(usual.len())]),
+        3 => {
+            let other = rng.below(line.len());
+            line.swap(at, other);
+        }
+        4 => line.extend(rng.bytes(1 + at % 8)),
+        5 => {
+            let mut parts: Vec<&[u8]> = line.split(|&byte| byte == b',').collect();
+            let (from, to) = (rng.below(parts.len()), rng.below(parts.len()));
+            let part = parts[from];
+            match rng.below(3) {
+                0 => drop(parts.remove(from)),
+                1 => parts.insert(to, part),
+                _ => parts.swap(from, to),
+            }
+            line = parts.join(&b',');
+        }
+        _ => rng.fill(&mut line[at..]),
+    }
+    line
+}
+
+/// Lines cut, lengthened and edited, random bytes of every length, and images of wrong sizes.
+#[test]
+fn anything_else() {
+    let (mut c, mut rng) = (reader(), Rng::new(0x616E_7974));
+    let line = line_of(&mut rng);
+    for len in 0..=200 {
+        let mut other = line.clone();
+        other.resize(len, b'\n');
+        c.agree(&other, IMAGE);
+        c.agree(&rng.bytes(len), IMAGE);
+        c.agree(&rng.numbers(len, 128), IMAGE);
+        c.demand(&line, len, u8::from(len != IMAGE));
+        c.demand(b"short", len, 1);
+        c.demand(&[b'x'; 50], len, if len == IMAGE { 5 } else { 1 });
+    }
+    while c.missing() > 0 {
+        let mut line = line_of(&mut rng);
+        for _ in 0..1 + rng.below(3) {
+            if !line.is_empty() {
+                line = edited(&mut rng, line);
+            }
+        }
+        c.agree(&line, IMAGE);
+    }
+    c.finish(&[0, 1, 5]);
+}
+
+/// Compares one writing, with some old length.
+fn write(t: &mut Tally, image: &[u8], room: usize) -> u8 {
+    let old = t.inputs().wrapping_mul(0x9E37_79B9);
+    let shown = || format!("{image:02x?} into {room} bytes");
+    t.both(room, |out| archive::write_line(image, out, old), |out| entries::write_line(image, out, old), shown)
+}
+
+#[test]
+fn writing() {
+    let (mut t, mut rng) = (Tally::new("write_line"), Rng::new(0x7772_6974));
+    let good = image(&valid(&mut rng));
+    for len in 0..=200 {
+        assert_eq!(write(&mut t, &good, len), u8::from(len != LONGEST));
+        assert_eq!(write(&mut t, &[0xFF; IMAGE], len), if len == LONGEST { 5 } else { 1 });
+        let mut other = good.to_vec();
+        other.resize(len, 0);
+        assert_eq!(write(&mut t, &other, LONGEST), u8::from(len != IMAGE));
+    }
+    for at in 0..IMAGE {
+        for byte in 0..=255 {
+            let mut other = good;
+            other[at] = byte;
+            write(&mut t, &other, LONGEST);
+        }
+    }
+    while t.inputs() < LEAST {
+        write(&mut t, &any_image(&mut rng), LONGEST);
+    }
+    t.finish(LEAST, &[0, 1, 5]);
+}
