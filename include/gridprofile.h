@@ -50,6 +50,9 @@ extern "C" {
 #define GRIDPROFILE_LINE_MAX_BYTES 72
 #define GRIDPROFILE_PROFILE_IMAGE_BYTES 64
 
+/* A listing: its header and 16 rows of at most 16 bytes. */
+#define GRIDPROFILE_LISTING_BYTES 277
+
 /* Blocks that numbers are drawn from, in bytes. */
 #define GRIDPROFILE_MATRIX_BLOCK_BYTES 3500
 #define GRIDPROFILE_EXPONENTS_BLOCK_BYTES 96
@@ -173,6 +176,16 @@ uint8_t gridprofile_read_line(const uint8_t *line, size_t line_len, uint8_t *pro
  * with 5 where the profile breaks a rule; *length is then as it was. */
 uint8_t gridprofile_write_line(const uint8_t *profile, size_t profile_len, uint8_t *line,
                                size_t line_len, size_t *length);
+
+/* Lists what a device would hold after the lines of an input: the input is cut after each line feed,
+ * each line is stored as if it were signed and the device set to that line's own country and class,
+ * refused lines and an unfinished last one are skipped. The listing, a header and then country,
+ * class and serial of every stored profile once in some order, stands at the front of
+ * GRIDPROFILE_LISTING_BYTES lent bytes, and its length in *length; bytes past it are not touched. An
+ * input of more than 65536 bytes gives only the text "too long" and a line feed. Refuses with 1
+ * where out_len is another; *length is then as it was. */
+uint8_t gridprofile_preview(const uint8_t *input, size_t input_len, uint8_t *out, size_t out_len,
+                            size_t *length);
 
 #ifdef __cplusplus
 }

@@ -111,9 +111,25 @@ static void lines(void)
     expect("its length", length == sizeof line - 1, 1, out, out, 0);
 }
 
+/* The listing of two lines, in either order. */
+static void listing(void)
+{
+    static const char input[] = "GP1,XA,B,12,230,50,1150,100,800,1500,1500,100,-2500,100\n"
+                                "GP1,XA,C,5,400,50,1100,200,850,1500,1500,100,-2500,100\n";
+    static const char one[] = "COUNTRY,CLASS,SERIAL\nXA,B,12\nXA,C,5\n";
+    static const char other[] = "COUNTRY,CLASS,SERIAL\nXA,C,5\nXA,B,12\n";
+    uint8_t out[GRIDPROFILE_LISTING_BYTES];
+    size_t length = 0;
+    int answer = gridprofile_preview((const uint8_t *)input, sizeof input - 1, out, sizeof out, &length);
+    const char *wanted = memcmp(out, one, sizeof one - 1) == 0 ? one : other;
+    expect("gridprofile_preview", answer, GRIDPROFILE_DONE, out, (const uint8_t *)wanted, length);
+    expect("its length", length == sizeof one - 1, 1, out, out, 0);
+}
+
 int main(void)
 {
     packing();
+    listing();
     lines();
     signing();
     hashing();

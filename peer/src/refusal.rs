@@ -8,6 +8,11 @@ pub const SHORT_DRAW: Refusal = 2;
 pub const BAD_FIELD: Refusal = 3;
 pub const MISMATCH: Refusal = 4;
 pub const BAD_PROFILE: Refusal = 5;
+pub const OTHER_DEVICE: Refusal = 6;
+pub const OLD_SERIAL: Refusal = 7;
+pub const STORE_FULL: Refusal = 8;
+pub const NOT_STORED: Refusal = 9;
+pub const BAD_DEVICE: Refusal = 10;
 
 /// Refuses by `refusal` unless `ok`.
 pub fn demand(ok: bool, refusal: Refusal) -> Result<(), Refusal> {

@@ -2,6 +2,7 @@
 
 use peer::bits::{packed_size, EXPONENT, VALUE};
 use peer::line;
+use peer::preview;
 use peer::refusal;
 use peer::sizes::CATEGORY_1;
 use std::collections::BTreeMap;
@@ -37,6 +38,7 @@ fn expected() -> BTreeMap<String, usize> {
         ("LINE_MIN_BYTES", line::SHORTEST),
         ("LINE_MAX_BYTES", line::LONGEST),
         ("PROFILE_IMAGE_BYTES", line::IMAGE),
+        ("LISTING_BYTES", preview::LISTING),
         ("MATRIX_BLOCK_BYTES", s.matrix_block),
         ("EXPONENTS_BLOCK_BYTES", s.exponents_block),
         ("MASK_VALUES_BLOCK_BYTES", s.mask_values_block),

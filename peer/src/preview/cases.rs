@@ -1,0 +1,94 @@
+//! Inputs for the preview.
+
+use super::*;
+use crate::line::cases::valid;
+use crate::line::{write_line, Profile};
+use crate::rng::Rng;
+
+/// The worked example.
+pub const EXAMPLE: &str = "\
+GP1,XA,B,12,230,50,1150,100,800,1500,1500,100,-2500,100
+GP1,XA,C,5,400,50,1100,200,850,1500,1500,100,-2500,100
+";
+
+/// A valid line of one of a few countries, with a small serial, so that pairs come again.
+pub fn line(rng: &mut Rng, countries: usize) -> String {
+    let profile =
+        Profile { country: [b'X', b'A' + rng.below(countries) as u8], serial: 1 + rng.below(9) as u32, ..valid(rng) };
+    String::from_utf8(write_line(&profile).expect("valid")).expect("letters and digits")
+}
+
+fn lines(rng: &mut Rng, count: usize, countries: usize) -> String {
+    (0..count).map(|_| line(rng, countries)).collect()
+}
+
+/// `count` pairs, each of a country of its own.
+fn pairs(rng: &mut Rng, count: u8) -> String {
+    let country = |at| [b'A' + at / 26, b'A' + at % 26];
+    let mut one = |at| write_line(&Profile { country: country(at), ..valid(rng) }).expect("valid");
+    (0..count).map(|at| String::from_utf8(one(at)).expect("letters and digits")).collect()
+}
+
+/// Lines up to just `len` bytes: valid ones, then one that is refused.
+fn exactly(rng: &mut Rng, len: usize) -> Vec<u8> {
+    let mut input = String::new();
+    while input.len() + 160 < len {
+        input += &line(rng, 3);
+    }
+    let fill = len - input.len() - 1;
+    input += &"x".repeat(fill);
+    (input + "\n").into_bytes()
+}
+
+/// Inputs that each mean something of their own, with a name.
+pub fn named(rng: &mut Rng) -> Vec<(&'static str, Vec<u8>)> {
+    let good = lines(rng, 3, 2);
+    let text = |text: &str| text.as_bytes().to_vec();
+    let mut last_line_ends = exactly(rng, LONGEST_INPUT);
+    last_line_ends.splice(LONGEST_INPUT - EXAMPLE.len().., text(EXAMPLE));
+    vec![
+        ("the example", text(EXAMPLE)),
+        ("nothing", Vec::new()),
+        ("no LF", text("GP1,XA,B,12")),
+        ("one line without its LF", text(good.lines().next().expect("three"))),
+        ("only LFs", vec![b'\n'; 200]),
+        ("CR LF", text(&good.replace('\n', "\r\n"))),
+        ("refused lines between good ones", text(&good.replace('\n', "\nGP1,bad\n\n"))),
+        ("an unfinished last line", text(&good[..good.len() - 1])),
+        ("an unfinished last line of another pair", text(&(good.clone() + EXAMPLE.trim_end()))),
+        ("16 pairs", text(&pairs(rng, 16))),
+        ("17 pairs", text(&pairs(rng, 17))),
+        ("40 pairs, then the first again", text(&(pairs(rng, 40) + &pairs(rng, 16)))),
+        ("replaced serials", text(&lines(rng, 200, 2))),
+        ("the same line twice", text(&EXAMPLE.repeat(2))),
+        (
+            "the lines the other way round",
+            text(&EXAMPLE.lines().rev().map(|l| l.to_string() + "\n").collect::<String>()),
+        ),
+        ("NUL bytes", vec![0; 300]),
+        ("NUL bytes between lines", text(&good.replace('\n', "\n\0\n"))),
+        ("NUL bytes after lines", text(&good.replace('\n', "\0\n"))),
+        ("no text", rng.bytes(5_000)),
+        ("a line too long for any, then good ones", text(&("x".repeat(3_000) + "\n" + &good))),
+        ("just not too long", exactly(rng, LONGEST_INPUT)),
+        ("just not too long, the last line good", last_line_ends),
+        ("just too long", exactly(rng, LONGEST_INPUT + 1)),
+        ("much too long", exactly(rng, 3 * LONGEST_INPUT)),
+        ("too long without LF", vec![b'x'; LONGEST_INPUT + 1]),
+    ]
+}
+
+/// Lines of a few countries, some of them damaged.
+pub fn any(rng: &mut Rng) -> Vec<u8> {
+    let (count, countries) = (rng.below(60), 1 + rng.below(9));
+    let mut input = lines(rng, count, countries).into_bytes();
+    for _ in 0..rng.below(4) {
+        if !input.is_empty() {
+            let at = rng.below(input.len());
+            input[at] = [b'\n', b'0', b'A', rng.below(256) as u8][rng.below(4)];
+        }
+    }
+    let keep = input.len() - rng.below(2) * rng.below(input.len().min(30) + 1);
+    input.truncate(keep);
+    input
+}

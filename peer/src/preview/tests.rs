@@ -1,0 +1,48 @@
+//! The worked example, and what is skipped.
+
+use super::cases::{any, named, EXAMPLE};
+use super::*;
+use crate::rng::Rng;
+
+#[test]
+fn the_example() {
+    assert_eq!(listing(EXAMPLE.as_bytes()), "COUNTRY,CLASS,SERIAL\nXA,B,12\nXA,C,5\n");
+}
+
+#[test]
+fn rows_of_the_named_inputs() {
+    let rows = |name: &str| {
+        let inputs = named(&mut Rng::new(50));
+        let (_, input) = inputs.iter().find(|(other, _)| *other == name).expect("a name");
+        listing(input).lines().count() - 1
+    };
+    for name in ["nothing", "no LF", "only LFs", "CR LF", "one line without its LF", "NUL bytes after lines"] {
+        assert_eq!(rows(name), 0, "{name}");
+    }
+    for name in ["16 pairs", "17 pairs", "40 pairs, then the first again"] {
+        assert_eq!(rows(name), 16, "{name}");
+    }
+    for name in ["the same line twice", "the lines the other way round"] {
+        assert_eq!(rows(name), 2, "{name}");
+    }
+}
+
+#[test]
+fn an_input_may_have_65536_bytes() {
+    for (name, input) in named(&mut Rng::new(51)) {
+        assert_eq!(listing(&input) == TOO_LONG, input.len() > 65_536, "{name}");
+    }
+    assert_eq!(listing(&[b'\n'; 65_536]), HEADER);
+    assert_eq!(listing(&[b'\n'; 65_537]), TOO_LONG);
+}
+
+#[test]
+fn a_listing_fits() {
+    let mut rng = Rng::new(52);
+    for _ in 0..300 {
+        let (mut out, input) = ([0; LISTING], any(&mut rng));
+        let (answer, length) = preview(&input, &mut out, 0);
+        assert!(answer == 0 && out[..length] == *listing(&input).as_bytes());
+    }
+    assert_eq!(preview(b"", &mut [0; LISTING + 1], 3), (1, 3));
+}

@@ -1,0 +1,136 @@
+//! The profiles that a device holds, packages, and the loader.
+
+use crate::line::{class_of, image, is_country, meaning, read_line, write_line, Profile, IMAGE, LONGEST, SHORTEST};
+use crate::refusal::{
+    answer_length, demand, Refusal, BAD_DEVICE, BAD_SIZE, NOT_STORED, OLD_SERIAL, OTHER_DEVICE, STORE_FULL,
+};
+use crate::scheme;
+use crate::sizes::{Sizes, CATEGORY_1};
+
+const S: Sizes = CATEGORY_1;
+
+/// Profiles that a store holds at most.
+pub const CAPACITY: usize = 16;
+
+/// Bytes of a store's image.
+pub const STORE: usize = CAPACITY * IMAGE;
+
+/// What a device is set to. It may be anything.
+#[derive(Clone, Copy, Debug)]
+pub struct Device<'a> {
+    pub country: &'a [u8],
+    pub class: u32,
+}
+
+impl Device<'_> {
+    fn exists(&self) -> Result<(), Refusal> {
+        let classes = [100, 140, 260, 520].map(|volts| class_of(volts).map(u32::from));
+        demand(is_country(self.country) && classes.contains(&Some(self.class)), BAD_DEVICE)
+    }
+
+    fn fits(&self, profile: &Profile) -> bool {
+        profile.country == self.country && u32::from(profile.class) == self.class
+    }
+}
+
+/// At most one profile for each country and class, in no particular order.
+#[derive(Clone, Debug, Default)]
+pub struct Store(Vec<Profile>);
+
+impl Store {
+    /// What an image means: a slot is used where its first byte is not 0.
+    pub fn from_image(bytes: &[u8]) -> Store {
+        let slots = bytes.chunks_exact(IMAGE).map(|slot| <&[u8; IMAGE]>::try_from(slot).expect("64 bytes"));
+        Store(slots.filter(|slot| slot[0] != 0).map(meaning).collect())
+    }
+
+    /// An image that means this store; the order of the slots is open.
+    pub fn image(&self) -> Vec<u8> {
+        let mut bytes: Vec<u8> = self.0.iter().flat_map(image).collect();
+        bytes.resize(STORE, 0);
+        bytes
+    }
+
+    /// All profiles, in an order that depends on nothing else.
+    pub fn sorted(&self) -> Vec<Profile> {
+        let mut profiles = self.0.clone();
+        profiles.sort();
+        profiles
+    }
+
+    fn find(&self, device: &Device) -> Option<usize> {
+        self.0.iter().position(|profile| device.fits(profile))
+    }
+
+    pub fn lookup(&self, device: &Device) -> Result<Profile, Refusal> {
+        device.exists()?;
+        self.find(device).map(|at| self.0[at]).ok_or(NOT_STORED)
+    }
+
+    /// Stores a profile: 6, 7, 8.
+    pub fn put(&mut self, profile: Profile, device: &Device) -> Result<(), Refusal> {
+        demand(device.fits(&profile), OTHER_DEVICE)?;
+        match self.find(device) {
+            Some(at) => {
+                demand(profile.serial > self.0[at].serial, OLD_SERIAL)?;
+                self.0[at] = profile;
+            }
+            None => {
+                demand(self.0.len() < CAPACITY, STORE_FULL)?;
+                self.0.push(profile);
+            }
+        }
+        Ok(())
+    }
+}
+
+/// Makes the package of a line: 1, then 5, then what signing says.
+pub fn make_package(seeds: [&[u8]; 3], line: &[u8], package: &mut [u8], length: usize) -> (u8, usize) {
+    let make = || {
+        let sizes = seeds.map(<[u8]>::len);
+        demand(sizes == [S.key_seed, S.round_seed, S.salt], BAD_SIZE)?;
+        demand(package.len() == S.signature() + LONGEST, BAD_SIZE)?;
+        read_line(line)?;
+        let mut signature = vec![0; S.signature()];
+        match scheme::sign(&S, seeds[0], seeds[1], seeds[2], line, &mut signature) {
+            0 => Ok([&signature, line].concat()),
+            refusal => Err(refusal),
+        }
+    };
+    answer_length(make(), package, length)
+}
+
+/// Checks a signature: key, message, signature.
+pub type Verify<'a> = &'a dyn Fn(&[u8], &[u8], &[u8]) -> u8;
+
+/// Loads a package into a store's image: 10, 1, what the checker says, 5, 6, 7, 8.
+pub fn load(image: &mut [u8], key: &[u8], package: &[u8], device: &Device, verify: Verify) -> u8 {
+    let loaded = || {
+        device.exists()?;
+        demand(image.len() == STORE && key.len() == S.key(), BAD_SIZE)?;
+        let lengths = S.signature() + SHORTEST..=S.signature() + LONGEST;
+        demand(lengths.contains(&package.len()), BAD_SIZE)?;
+        let (signature, line) = package.split_at(S.signature());
+        match verify(key, line, signature) {
+            0 => (),
+            refusal => return Err(refusal),
+        }
+        let mut store = Store::from_image(image);
+        store.put(read_line(line)?, device)?;
+        Ok(store.image())
+    };
+    crate::refusal::answer(loaded(), image)
+}
+
+/// Writes the line stored for a device: 10, 1, 9; 5 where an image holds what no load stored.
+pub fn lookup(image: &[u8], device: &Device, line: &mut [u8], length: usize) -> (u8, usize) {
+    let make = || {
+        device.exists()?;
+        demand(image.len() == STORE && line.len() == LONGEST, BAD_SIZE)?;
+        write_line(&Store::from_image(image).lookup(device)?)
+    };
+    answer_length(make(), line, length)
+}
+
+#[cfg(test)]
+mod tests;

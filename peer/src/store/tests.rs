@@ -1,0 +1,71 @@
+//! The store as a map, and a package that loads.
+
+use super::*;
+use crate::line::cases::valid;
+use crate::rng::Rng;
+
+fn device(profile: &Profile) -> Device<'_> {
+    Device { country: &profile.country, class: u32::from(profile.class) }
+}
+
+fn profile(country: &[u8; 2], serial: u32) -> Profile {
+    Profile { country: *country, serial, ..valid(&mut Rng::new(40)) }
+}
+
+#[test]
+fn a_greater_serial_replaces() {
+    let (mut store, p) = (Store::default(), profile(b"XA", 12));
+    assert_eq!(store.lookup(&device(&p)), Err(9));
+    assert_eq!(store.put(p, &device(&p)), Ok(()));
+    assert_eq!(store.put(p, &device(&p)), Err(7));
+    let next = Profile { serial: 13, ..p };
+    assert_eq!(store.put(next, &device(&p)), Ok(()));
+    assert_eq!(store.lookup(&device(&p)), Ok(next));
+    assert_eq!(store.sorted(), [next]);
+}
+
+#[test]
+fn a_seventeenth_pair_has_no_room() {
+    let mut store = Store::default();
+    for letter in b'A'..b'A' + 16 {
+        let p = profile(&[b'X', letter], 1);
+        assert_eq!(store.put(p, &device(&p)), Ok(()));
+    }
+    let p = profile(b"YA", 1);
+    assert_eq!(store.put(p, &device(&p)), Err(8));
+    let newer = profile(b"XC", 2);
+    assert_eq!(store.put(newer, &device(&newer)), Ok(()));
+    assert_eq!(Store::from_image(&store.image()).sorted(), store.sorted());
+}
+
+#[test]
+fn another_device_is_refused() {
+    let (mut store, p) = (Store::default(), profile(b"XA", 1));
+    for (country, class) in [(&b"XB"[..], p.class), (b"XA", p.class ^ 3), (b"XAX", p.class)] {
+        assert_eq!(store.put(p, &Device { country, class: u32::from(class) }), Err(6));
+    }
+    for (country, class) in [(&b"xA"[..], 65), (b"X", 65), (b"", 65), (b"XAB", 65), (b"XA", 69), (b"XA", 65 + 256)] {
+        assert_eq!(store.lookup(&Device { country, class }), Err(10));
+    }
+}
+
+#[test]
+fn a_made_package_loads() {
+    let mut rng = Rng::new(41);
+    let (private, master, salt) = (rng.bytes(32), rng.bytes(16), rng.bytes(32));
+    let (p, mut key, mut package) = (valid(&mut rng), vec![0; 77], vec![7; 19_224]);
+    let line = write_line(&p).unwrap();
+    assert_eq!(scheme::make_key(&S, &private, &mut key), 0);
+    let (answer, length) = make_package([&private, &master, &salt], &line, &mut package, 0);
+    assert_eq!((answer, length), (0, 19_152 + line.len()));
+    assert!(package[length..].iter().all(|&byte| byte == 7));
+    let mut image = vec![0; STORE];
+    let plain = |key: &[u8], message: &[u8], signature: &[u8]| scheme::verify(&S, key, message, signature);
+    assert_eq!(load(&mut image, &key, &package[..length], &device(&p), &plain), 0);
+    let mut out = [0; LONGEST];
+    assert_eq!(lookup(&image, &device(&p), &mut out, 0), (0, line.len()));
+    assert_eq!(out[..line.len()], line);
+    assert_eq!(load(&mut image, &key, &package[..length], &device(&p), &plain), 7);
+    assert_eq!(make_package([&private, &master, &salt[1..]], b"", &mut package, 5), (1, 5));
+    assert_eq!(make_package([&private, &master, &salt], &[b'x'; 50], &mut package, 5), (5, 5));
+}

@@ -1,0 +1,73 @@
+//! The program, fed through a pipe.
+
+use peer::preview::cases::{any, named};
+use peer::preview::{in_order, listing};
+use peer::rng::Rng;
+use std::io::{Read, Write};
+use std::process::{ChildStdin, Command, Stdio};
+use std::thread;
+
+/// The program, or the one that GRIDPROFILE_PREVIEW names.
+fn path() -> String {
+    let made = concat!(env!("CARGO_MANIFEST_DIR"), "/../target/bin/preview_main");
+    std::env::var("GRIDPROFILE_PREVIEW").unwrap_or(made.to_string())
+}
+
+/// How a pipe is filled.
+type Feed = fn(ChildStdin, Vec<u8>);
+
+/// A program that has read enough may close its end.
+fn at_once(mut pipe: ChildStdin, input: Vec<u8>) {
+    let _ = pipe.write_all(&input);
+}
+
+/// Each byte is a write of its own, so that reads come short.
+fn byte_by_byte(mut pipe: ChildStdin, input: Vec<u8>) {
+    for byte in input {
+        if pipe.write_all(&[byte]).is_err() {
+            return;
+        }
+        if byte == b',' {
+            thread::yield_now();
+        }
+    }
+}
+
+/// What the program prints, its rows sorted, and that it ends well.
+fn run(input: &[u8], feed: Feed) -> String {
+    let started = Command::new(path()).stdin(Stdio::piped()).stdout(Stdio::piped()).spawn();
+    let mut child = started.unwrap_or_else(|error| panic!("{}: {error}", path()));
+    let (pipe, input) = (child.stdin.take().expect("piped"), input.to_vec());
+    let feeder = thread::spawn(move || feed(pipe, input));
+    let mut out = String::new();
+    child.stdout.take().expect("piped").read_to_string(&mut out).expect("letters and digits");
+    feeder.join().expect("fed");
+    assert!(child.wait().expect("ended").success());
+    in_order(&out)
+}
+
+#[test]
+fn the_example_as_it_stands() {
+    let out = run(peer::preview::cases::EXAMPLE.as_bytes(), at_once);
+    assert_eq!(out, "COUNTRY,CLASS,SERIAL\nXA,B,12\nXA,C,5\n");
+}
+
+#[test]
+fn programs_agree() {
+    let mut rng = Rng::new(0x7072_6F67);
+    let mut inputs = named(&mut rng);
+    inputs.extend((0..100).map(|_| ("any", any(&mut rng))));
+    for (name, input) in &inputs {
+        assert_eq!(run(input, at_once), listing(input), "{name}");
+    }
+    println!("preview program: {} inputs agree", inputs.len());
+}
+
+#[test]
+fn pieces_of_one_byte() {
+    let inputs = named(&mut Rng::new(0x736C_6F77));
+    for (name, input) in &inputs {
+        assert_eq!(run(input, byte_by_byte), listing(input), "{name}");
+    }
+    println!("preview program, byte by byte: {} inputs agree", inputs.len());
+}
