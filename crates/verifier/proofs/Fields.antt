@@ -1,12 +1,11 @@
 -- Fields read from bytes whose size is right. Assumes nothing.
-use mathlib.Core.Path.{_≡_, refl, _∙_, sym, subst}
-use mathlib.Core.Bool.{Bool, true}
+use mathlib.Core.Path.{_≡_, _∙_, sym, subst}
 use mathlib.Core.List.{List, [], _∷_}
 use Prim.Native.Nat.{ℕ}
 use borrow.Author.Tests.{eq-eqb}
-use lib.Dec.{T, eqb}
+use lib.Dec.{T}
 use lib.ListN.{length}
-use Rattle.outcome.specs.Answer.{Check, _unless_, bad-field, firstRefusal, Answers, pick}
+use Rattle.outcome.specs.Answer.{Check, _unless_, bad-field, Answers}
 use Rattle.outcome.proofs.Checks.{passed}
 use Rattle.packing.specs.Packing.{unpack, size, allBelow, spareZero, unpackChecks}
 use Rattle.packing.proofs.RoundTrip.{length-unpack}

@@ -1,12 +1,12 @@
 -- What a key that passes gives: its syndrome and V are vectors. Assumes nothing.
-use mathlib.Core.Path.{_≡_, _∙_, sym, subst}
-use mathlib.Core.Bool.{Bool, true}
+use mathlib.Core.Path.{_≡_, sym, subst}
+use mathlib.Core.Bool.{true}
 use mathlib.Core.List.{List}
 use Prim.Native.Nat.{ℕ, _-_, _≤_}
 use native.Mathlib.Nat.{mul-le-mul}
 use native.Mathlib.Omega.{arith}
 use lib.Dec.{T}
-use lib.ListN.{length, drop}
+use lib.ListN.{length}
 use Rattle.outcome.specs.Answer.{Answers}
 use Rattle.packing.proofs.Below.{Below}
 use Rattle.parameters.specs.declared.Params.{Params}

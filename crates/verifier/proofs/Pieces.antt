@@ -1,7 +1,7 @@
 -- The verifier over the pieces of a signature: its draws, its rounds under the challenges drawn, and the comparison.
 -- Assumes nothing.
 use mathlib.Core.Path.{_≡_, refl, _∙_, sym, ap, subst}
-use mathlib.Core.Bool.{Bool, true, false}
+use mathlib.Core.Bool.{true, false}
 use mathlib.Core.List.{List, [], _∷_, _++_}
 use Prim.Native.Nat.{ℕ, _+_, _-_, _*_}
 use lib.Dec.{T}
@@ -15,36 +15,11 @@ use Rattle.parameters.specs.Sound.{Sound}
 use Rattle.sampling.specs.Weight.{weight}
 use Rattle.sampling.proofs.Kept.{sample-below, length-sample}
 use Rattle.sampling.proofs.Shuffling.{length-shuffle, weight-shuffle}
-use Rattle.scheme.specs.Sign.{
-  firstBlock,
-  firstChallenges,
-  firstDrawn,
-  secondBlock,
-  secondChallenges,
-  secondDrawn,
-  partSize,
-}
+use Rattle.scheme.specs.Sign.{firstBlock, firstChallenges, firstDrawn, secondBlock, secondChallenges, secondDrawn, partSize}
 use Rattle.scheme.specs.Verify as verify
 use Rattle.verifier.specs.declared.rounds.Rounds.{Rounds}
 use Rattle.verifier.specs.Vector.{Vector}
-use Rattle.verifier.specs.Rounds.{
-  replyIn,
-  checksIn,
-  broughtIn,
-  givenIn,
-  c0In,
-  c1In,
-  hIn,
-  differences,
-  Compared,
-  offset,
-  partAt,
-  checksAt,
-  c0At,
-  c1At,
-  hAt,
-  Ran,
-}
+use Rattle.verifier.specs.Rounds.{replyIn, checksIn, broughtIn, givenIn, c0In, c1In, hIn, differences, Compared, offset, partAt, checksAt, c0At, c1At, hAt, Ran}
 use Rattle.verifier.proofs.Answering.{stops, goes-on}
 use Rattle.verifier.proofs.Vectors.{made}
 

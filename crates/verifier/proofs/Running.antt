@@ -1,7 +1,7 @@
 -- The rounds upward: what holds after j of them. Assumes nothing.
 use mathlib.Core.Path.{_≡_, refl, _∙_, sym, ap, subst}
 use mathlib.Core.Bool.{Bool, true, false}
-use mathlib.Core.List.{List, [], _∷_, _++_}
+use mathlib.Core.List.{List, []}
 use Prim.Native.Nat.{ℕ, zero, suc, _+_, _-_, _<_, _≤_}
 use native.Mathlib.Nat.{not-suc-le-zero}
 use native.Mathlib.Numerals.{add-one}
@@ -17,18 +17,7 @@ use Rattle.scheme.specs.Strings.{string3, string4, string6}
 use Rattle.scheme.specs.Sign.{partSize}
 use Rattle.verifier.specs.declared.rounds.Sponges.{Sponges}
 use Rattle.verifier.specs.declared.rounds.Rounds.{Rounds}
-use Rattle.verifier.specs.Rounds.{
-  Stepped,
-  AllReady,
-  HoldAll,
-  offset,
-  partAt,
-  checksAt,
-  c0At,
-  c1At,
-  hAt,
-  Ran,
-}
+use Rattle.verifier.specs.Rounds.{Stepped, AllReady, HoldAll, offset, partAt, checksAt, c0At, c1At, hAt, Ran}
 use Rattle.verifier.proofs.Answering.{flat-stops, flat-passes}
 
 -- one summand more is within the total

@@ -1,7 +1,7 @@
 -- A reply to the second challenge 1, a round's seed: the answers of its draws, and what it gives. Assumes nothing.
 use mathlib.Core.Path.{_≡_, _∙_, sym}
 use mathlib.Core.Bool.{Bool, true, false}
-use mathlib.Core.List.{List, [], _∷_, _++_}
+use mathlib.Core.List.{List, [], _++_}
 use Prim.Native.Nat.{ℕ}
 use native.Mathlib.Omega.{arith}
 use Rattle.outcome.specs.Answer.{firstRefusal}
@@ -12,15 +12,7 @@ use Rattle.sampling.proofs.Kept.{sample-below}
 use Rattle.linear.specs.Linear.{response}
 use Rattle.scheme.specs.Strings.{digest, string1, string2, string10-round}
 use Rattle.scheme.specs.Key.{exponentsDrawn}
-use Rattle.scheme.specs.Round.{
-  maskExponents,
-  maskValues,
-  maskBlock,
-  roundDraws,
-  replyChecks,
-  replyString,
-  replyResponse,
-}
+use Rattle.scheme.specs.Round.{maskExponents, maskValues, maskBlock, roundDraws, replyChecks, replyString, replyResponse}
 use Rattle.scheme.proofs.PartsStrings.{below-mask, length-mask, length-values}
 use Rattle.verifier.specs.Vector.{Vector}
 use Rattle.verifier.specs.Recomputed.{Recomputed}

@@ -12,7 +12,6 @@ use Rattle.parameters.specs.Sound.{Sound}
 use Rattle.shake.specs.Fold.{Absorbs}
 use Rattle.scheme.specs.Round.{replySize}
 use Rattle.verifier.specs.declared.rounds.Sponges.{Sponges}
-use Rattle.verifier.specs.declared.rounds.Rounds.{Rounds}
 use Rattle.verifier.specs.Recomputed.{Recomputed}
 use Rattle.verifier.specs.Rounds.{replyIn, checksIn, broughtIn, givenIn, c0In, c1In, hIn, Stepped}
 use Rattle.verifier.proofs.Rounded.{given-part, h-part}

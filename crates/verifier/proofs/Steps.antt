@@ -1,12 +1,12 @@
 -- The groups of tests in their order are the lists of the scheme. Assumes nothing.
-use mathlib.Core.Path.{_≡_, refl, _∙_, sym, ap}
-use mathlib.Core.Bool.{Bool, true, false}
+use mathlib.Core.Path.{_≡_, _∙_, sym, ap}
+use mathlib.Core.Bool.{true, false}
 use mathlib.Core.List.{List, [], _∷_, _++_, append-assoc}
 use Prim.Native.Nat.{ℕ, _≤_}
 use borrow.Author.Tests.{le-leb}
-use lib.Dec.{T, eqb, eqb→eq, leb→le}
+use lib.Dec.{eqb, eqb→eq, leb→le}
 use lib.ListN.{length}
-use Rattle.outcome.specs.Answer.{Check, _unless_, short, differs, firstRefusal, Passed, pick}
+use Rattle.outcome.specs.Answer.{Check, _unless_, short, differs, firstRefusal, pick}
 use Rattle.outcome.specs.Lists.{same}
 use Rattle.outcome.proofs.Checks.{passed}
 use Rattle.parameters.specs.declared.Params.{Params}

@@ -1,32 +1,20 @@
 -- A reply to the second challenge 0, y and σ packed: the answers of its fields, and what it gives. Assumes nothing.
-use mathlib.Core.Path.{_≡_, refl, _∙_, sym, ap}
-use mathlib.Core.Bool.{Bool, true, false}
+use mathlib.Core.Path.{_≡_, _∙_, sym}
 use mathlib.Core.List.{List, [], _∷_, _++_}
 use Prim.Native.Nat.{ℕ, _+_}
 use native.Mathlib.Omega.{arith}
 use borrow.Author.Tests.{ne-eqb}
-use lib.Dec.{T}
 use lib.ListN.{length, take, drop, length-drop}
 use lib.Seq.{length-take-le}
 use Rattle.outcome.specs.Answer.{firstRefusal}
 use Rattle.outcome.proofs.Checks.{answered}
-use Rattle.packing.specs.Packing.{pack, unpack, size}
+use Rattle.packing.specs.Packing.{pack, size}
 use Rattle.packing.proofs.Below.{Below, below-take, below-drop}
 use Rattle.packing.proofs.RoundTrip.{pack-unpack}
 use Rattle.parameters.specs.declared.Params.{Params}
 use Rattle.linear.specs.Linear.{scaled, syndrome, lessTimes}
 use Rattle.scheme.specs.Strings.{digest, string0, string2, roundNumber}
-use Rattle.scheme.specs.Round.{
-  valuesSize,
-  replySize,
-  replyValues,
-  replyExponents,
-  replyFields,
-  replyChecks,
-  replySyndrome,
-  replyString,
-  replyResponse,
-}
+use Rattle.scheme.specs.Round.{valuesSize, replySize, replyValues, replyExponents, replyFields, replyChecks, replySyndrome, replyString, replyResponse}
 use Rattle.verifier.specs.Recomputed.{Recomputed}
 use Rattle.verifier.proofs.Answering.{stops, goes-on}
 use Rattle.verifier.proofs.Fields.{fieldChecks, Read}

@@ -1,12 +1,9 @@
 -- Vectors by how they were made. Assumes nothing.
 use mathlib.Core.Path.{_≡_, _∙_, ap, sym, subst}
-use mathlib.Core.Bool.{true}
 use mathlib.Core.List.{List}
-use Prim.Native.Nat.{ℕ, _-_, _≤_}
-use native.Mathlib.Omega.{arith}
+use Prim.Native.Nat.{ℕ, _-_}
 use lib.Dec.{T}
-use lib.ListN.{length, take}
-use lib.Seq.{length-take-le}
+use lib.ListN.{length}
 use Rattle.packing.specs.Packing.{allBelow}
 use Rattle.packing.proofs.Below.{Below, below-test}
 use Rattle.linear.specs.Linear.{scaled, syndrome, lessTimes}

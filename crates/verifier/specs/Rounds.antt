@@ -2,7 +2,7 @@
 -- challenges that a signature's own c and h give, these are the definitions of the scheme (proofs/Pieces).
 -- Assumes nothing.
 use mathlib.Core.Path.{_≡_}
-use mathlib.Core.List.{List, [], _∷_, _++_}
+use mathlib.Core.List.{List, [], _∷_}
 use Prim.Native.Nat.{ℕ, _+_}
 use lib.Dec.{eqb}
 use lib.ListN.{take, drop, getD}

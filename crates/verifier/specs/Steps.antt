@@ -1,8 +1,6 @@
 -- The tests of the round examiner and of the verifier in groups, one for each function. Their order is that of the
 -- scheme's lists (proofs/Steps).
 -- Assumes nothing.
-use mathlib.Core.Path.{_≡_}
-use mathlib.Core.Bool.{Bool}
 use mathlib.Core.List.{List, [], _∷_, _++_}
 use Prim.Native.Nat.{ℕ}
 use lib.Dec.{eqb, leb}

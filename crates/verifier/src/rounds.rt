@@ -4,7 +4,7 @@ use field::Value;
 use parameters::Params;
 use shake::Sponge;
 ghost use mathlib.Core.Path.{_≡_};
-ghost use Prim.Native.Nat.{_+_, _-_, _*_, _<_, _≤_};
+ghost use Prim.Native.Nat.{_+_, _-_, _<_};
 ghost use mathlib.Core.List.{[]};
 ghost use lib.ListN.{length};
 ghost use Rattle.parameters.specs.Sound.{Sound};
@@ -165,12 +165,14 @@ pub fn compare(p: Params, sponges: Sponges, c: &[u8], h: &[u8]) -> u8
     shake::squeeze(sponges.c1, &mut c1[..d]);
     let mut made = [0u8; 64];
     hashing::hash2(p.rate, 5, &c0[..d], &c1[..d], &mut made[..d]);
-    if !buffers::equal(c, &made[..d]) {
+    let commitment = &made[..d];
+    if !buffers::equal(c, commitment) {
         return 4;
     }
     let mut hs = [0u8; 64];
     shake::squeeze(sponges.h, &mut hs[..d]);
-    if !buffers::equal(h, &hs[..d]) {
+    let hash = &hs[..d];
+    if !buffers::equal(h, hash) {
         return 4;
     }
     0

@@ -1,5 +1,5 @@
 -- `reply_sized`: the size counts under 0 and 1. Assumes nothing.
-use mathlib.Core.Path.{_∙_, ap}
+use mathlib.Core.Path.{ap}
 use Prim.Native.Nat.{ℕ}
 use native.Mathlib.Omega.{arith}
 use borrow.Author.Needs.{needs}
@@ -10,7 +10,9 @@ use Rattle.verifier.proofs.examine.reply_sized.Statement.{statement}
 use Rattle.verifier.proofs.examine.reply_sized.Tie as tie
 
 returns : tie.Need-returns
-returns c = rw (lt-leb (c .before .before .args .challenge) 1 (c .if1 .taken))
+returns c =
+    let start = c .before .before in
+    rw (lt-leb (start .args .challenge) 1 (c .if1 .taken))
 
 cast-reply-size : tie.Need-cast-reply-size
 cast-reply-size c = omega arith
@@ -20,8 +22,9 @@ reply-size-requires c κs = search needs
 
 returns-2 : tie.Need-returns-2
 returns-2 c =
-    rw (le-leb (c .before .before .before .args .challenge) 1 (c .before .if1 .left))
-    (ap (λ (k : ℕ). eqb (length (c .before .before .before .args .reply .now)) k) (c .reply-size .ensures))
+    let start = c .before .before .before in
+    rw (le-leb (start .args .challenge) 1 (c .before .if1 .left))
+    (ap (λ (k : ℕ). eqb (length (start .args .reply .now)) k) (c .reply-size .ensures))
 
 pub reply-sized-spec : {M : Type 1} → statement M
 reply-sized-spec = tie.close (tie.spec returns cast-reply-size reply-size-requires returns-2)

@@ -1,9 +1,8 @@
 -- `syndrome`: what unpacking answers. Assumes nothing.
-use mathlib.Core.Path.{_≡_, _∙_}
-use Prim.Native.Nat.{_-_, _+_}
+use Prim.Native.Nat.{_-_}
 use native.Mathlib.Omega.{arith}
 use borrow.Author.Needs.{needs}
-use lib.ListN.{length, drop, length-drop}
+use lib.ListN.{length-drop}
 use Rattle.scheme.specs.Key.{keyFields, syndromeOf}
 use Rattle.verifier.proofs.Fields.{unpacked}
 use Rattle.verifier.proofs.Halves.{tail}
@@ -29,10 +28,11 @@ returns : tie.Need-returns
 unfolding keyFields syndromeOf
 returns c =
     let start = c .before .before .before .before .before .before .before in
+    let unpack-values = c .before .before .unpack-values in
     let a = start .args in
     let d = a .p .digest in
     unpacked 7 127 (a .p .n - a .p .k) (start .pre .2) (tail d (a .key .now)) (omega (arith, length-drop d (a .key .now), start .pre .1))
-    (c .before .before .unpack-values .ensures)
+    (unpack-values .ensures)
 
 pub syndrome-spec : {M : Type 1} → statement M
 syndrome-spec = tie.close (tie.spec sub-unpack-values part-unpack-values-start part-unpack-values-end unpack-values-requires same-length returns)

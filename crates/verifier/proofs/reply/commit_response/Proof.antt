@@ -1,5 +1,5 @@
 -- `commit_response`: the part of the array holds the packed response. Assumes nothing.
-use mathlib.Core.Path.{_≡_, _∙_, ap, sym}
+use mathlib.Core.Path.{_∙_, ap, sym}
 use mathlib.Core.List.{List, _∷_}
 use Prim.Native.Nat.{ℕ, _≤_}
 use native.Mathlib.Omega.{arith}
@@ -14,7 +14,9 @@ use Rattle.verifier.proofs.reply.commit_response.Tie as tie
 
 -- the packed response fits its array
 fits : (c : tie.After-packed-size) → c .packed-size .result ≤ 224
-fits c = omega (arith, c .packed-size .ensures, c .before .before .before .pre .0 .n-fits)
+fits c =
+    let start = c .before .before .before in
+    omega (arith, c .packed-size .ensures, start .pre .0 .n-fits)
 
 packed-size-requires : tie.Need-packed-size-requires
 packed-size-requires c κs = search needs
@@ -26,21 +28,26 @@ slice-aggregate-pack-values : tie.Need-slice-aggregate-pack-values
 slice-aggregate-pack-values c = part-length (c .before .packed-size .result) (replicate 224 0) (fits (c .before))
 
 pack-values-requires : tie.Need-pack-values-requires
-pack-values-requires c κs = (
-  c .before .before .before .before .pre .1 .ranged,
-  sym (part-length (c .before .packed-size .result) (replicate 224 0) (fits (c .before)))
-      ∙ c .before .packed-size .ensures
-      ∙ ap (λ (n : ℕ). size 7 n) (sym (c .before .before .before .before .pre .1 .long)),
-)
+pack-values-requires c κs =
+    let start = c .before .before .before .before in (
+      start .pre .1 .ranged,
+      sym (part-length (c .before .packed-size .result) (replicate 224 0) (fits (c .before)))
+          ∙ c .before .packed-size .ensures
+          ∙ ap (λ (n : ℕ). size 7 n) (sym (start .pre .1 .long)),
+    )
 
 lent : (c : tie.After-pack-values) → Lent (c .before .before .packed-size .result) (replicate 224 0) (c .pack-values .last .1 .0)
-lent c = record { fits = fits (c .before .before); kept = c .pack-values .kept .1 .0 }
+lent c =
+    let at-packed-size = c .before .before in
+    record { fits = fits at-packed-size; kept = c .pack-values .kept .1 .0 }
 
 array-share-prefix-values : tie.Need-array-share-prefix-values
 array-share-prefix-values c = lent-within (lent (c .before))
 
 slice-aggregate-hash1 : tie.Need-slice-aggregate-hash1
-slice-aggregate-hash1 c = lent-length (lent (c .before .before))
+slice-aggregate-hash1 c =
+    let at-pack-values = c .before .before in
+    lent-length (lent at-pack-values)
 
 hash1-requires : tie.Need-hash1-requires
 hash1-requires c κs = search needs
@@ -51,9 +58,13 @@ same-length c = search needs
 returns : tie.Need-returns
 unfolding string2
 returns c =
-    hashed (c .before .before .before .before .before .before .before .before .before .before .before .args .p) (c .before .before .hash1 .ensures)
-    (ap (λ (values : List ℕ). 2 ∷ values) (lent-part (lent (c .before .before .before .before .before .before)) ∙ c .before .before .before .before .before .before .pack-values .ensures))
-    (c .before .before .before .before .before .before .before .before .before .before .before .pre .2)
+    let start = c .before .before .before .before .before .before .before .before .before .before .before in
+    let at-pack-values = c .before .before .before .before .before .before in
+    let hash1 = c .before .before .hash1 in
+    let pack-values = c .before .before .before .before .before .before .pack-values in
+    hashed (start .args .p) (hash1 .ensures)
+    (ap (λ (values : List ℕ). 2 ∷ values) (lent-part (lent at-pack-values) ∙ pack-values .ensures))
+    (start .pre .2)
 
 pub commit-response-spec : {M : Type 1} → statement M
 commit-response-spec = tie.close (tie.spec packed-size-requires array-borrow-prefix-values slice-aggregate-pack-values pack-values-requires array-share-prefix-values slice-aggregate-hash1 hash1-requires same-length returns)

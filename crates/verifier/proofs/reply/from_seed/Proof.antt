@@ -1,5 +1,5 @@
 -- `from_seed`: both draws, then both digests. Assumes nothing.
-use mathlib.Core.Path.{_≡_, _∙_, sym}
+use mathlib.Core.Path.{_∙_, sym}
 use Prim.Native.Nat.{_≤_}
 use native.Mathlib.Omega.{arith}
 use borrow.Author.Needs.{needs}
@@ -18,9 +18,11 @@ mask-exponents-requires c κs = search needs
 
 returns : tie.Need-returns
 returns c =
-    let a = c .before .before .before .before .before .before .before .args in
+    let start = c .before .before .before .before .before .before .before in
+    let mask-exponents = c .before .before .mask-exponents in
+    let a = start .args in
     short-exponents (a .p) (a .beta .0) (a .seed .now) (a .salt .now) (a .i)
-    (sym (c .before .before .mask-exponents .ensures .answer) ∙ not-true (c .before .before .mask-exponents .result) (c .if1 .taken))
+    (sym (mask-exponents .ensures .answer) ∙ not-true (mask-exponents .result) (c .if1 .taken))
 
 slice-aggregate-mask-values : tie.Need-slice-aggregate-mask-values
 slice-aggregate-mask-values c = search needs
@@ -30,41 +32,67 @@ mask-values-requires c κs = search needs
 
 returns-2 : tie.Need-returns-2
 returns-2 c =
-    let a = c .before .before .before .before .before .before .before .before .before .before .before .args in
+    let start = c .before .before .before .before .before .before .before .before .before .before .before in
+    let mask-exponents = c .before .before .before .before .before .before .mask-exponents in
+    let if1 = c .before .before .before .before .if1 in
+    let mask-values = c .before .before .mask-values in
+    let a = start .args in
     short-values (a .p) (a .beta .0) (a .seed .now) (a .salt .now) (a .i)
-    (sym (c .before .before .before .before .before .before .mask-exponents .ensures .answer) ∙ not-false (c .before .before .before .before .before .before .mask-exponents .result) (c .before .before .before .before .if1 .left))
-    (sym (c .before .before .mask-values .ensures .answer) ∙ not-true (c .before .before .mask-values .result) (c .if2 .taken))
+    (sym (mask-exponents .ensures .answer) ∙ not-false (mask-exponents .result) (if1 .left))
+    (sym (mask-values .ensures .answer) ∙ not-true (mask-values .result) (c .if2 .taken))
+
+abbrev entry-mask-values : tie.After-mask-values → tie.Start
+entry-mask-values c = c .before .before .before .before .before .before .before .before .before
 
 -- the draws lie within their arrays
-us-within : (c : tie.After-mask-values) → c .before .before .before .before .before .before .before .before .before .args .p .n ≤ length (c .mask-values .last .1 .1 .1 .1 .0)
-us-within c = rw (c .mask-values .kept .1 .1 .1 .1 .0) (omega (arith, c .before .before .before .before .before .before .before .before .before .pre .0 .n-fits))
+us-within : (c : tie.After-mask-values) → entry-mask-values c .args .p .n ≤ length (c .mask-values .last .1 .1 .1 .1 .0)
+us-within c =
+    let start = c .before .before .before .before .before .before .before .before .before in
+    rw (c .mask-values .kept .1 .1 .1 .1 .0) (omega (arith, start .pre .0 .n-fits))
 
-es-within : (c : tie.After-mask-exponents) → c .before .before .before .before .before .args .p .n ≤ length (c .mask-exponents .last .1 .1 .1 .1 .0)
-es-within c = rw (c .mask-exponents .kept .1 .1 .1 .1 .0) (omega (arith, c .before .before .before .before .before .pre .0 .n-fits))
+abbrev entry-mask-exponents : tie.After-mask-exponents → tie.Start
+entry-mask-exponents c = c .before .before .before .before .before
+
+es-within : (c : tie.After-mask-exponents) → entry-mask-exponents c .args .p .n ≤ length (c .mask-exponents .last .1 .1 .1 .1 .0)
+es-within c =
+    let start = c .before .before .before .before .before in
+    rw (c .mask-exponents .kept .1 .1 .1 .1 .0) (omega (arith, start .pre .0 .n-fits))
 
 array-share-prefix-us : tie.Need-array-share-prefix-us
-array-share-prefix-us c = us-within (c .before .before)
+array-share-prefix-us c =
+    let at-mask-values = c .before .before in
+    us-within at-mask-values
 
 slice-aggregate-from-mask : tie.Need-slice-aggregate-from-mask
-slice-aggregate-from-mask c = sym (length-take-le _ _ (us-within (c .before .before .before)))
+slice-aggregate-from-mask c =
+    let at-mask-values = c .before .before .before in
+    sym (length-take-le _ _ (us-within at-mask-values))
 
 array-share-prefix-es : tie.Need-array-share-prefix-es
-array-share-prefix-es c = es-within (c .before .before .before .before .before .before .before)
+array-share-prefix-es c =
+    let at-mask-exponents = c .before .before .before .before .before .before .before in
+    es-within at-mask-exponents
 
 slice-aggregate-from-mask-2 : tie.Need-slice-aggregate-from-mask-2
-slice-aggregate-from-mask-2 c = sym (length-take-le _ _ (es-within (c .before .before .before .before .before .before .before .before)))
+slice-aggregate-from-mask-2 c =
+    let at-mask-exponents = c .before .before .before .before .before .before .before .before in
+    sym (length-take-le _ _ (es-within at-mask-exponents))
 
 from-mask-requires : tie.Need-from-mask-requires
 from-mask-requires c κs =
     let start = c .before .before .before .before .before .before .before .before .before .before .before .before .before .before in
+    let mask-exponents = c .before .before .before .before .before .before .before .before .before .mask-exponents in
+    let if1 = c .before .before .before .before .before .before .before .if1 in
+    let mask-values = c .before .before .before .before .before .mask-values in
+    let if2 = c .before .before .before .if2 in
     let a = start .args in
-    let e = not-false (c .before .before .before .before .before .before .before .before .before .mask-exponents .result) (c .before .before .before .before .before .before .before .if1 .left) in
-    let u = not-false (c .before .before .before .before .before .mask-values .result) (c .before .before .before .if2 .left) in
-    let both-e = sym (c .before .before .before .before .before .before .before .before .before .mask-exponents .ensures .answer) ∙ e in
-    let both-u = sym (c .before .before .before .before .before .mask-values .ensures .answer) ∙ u in (
+    let e = not-false (mask-exponents .result) (if1 .left) in
+    let u = not-false (mask-values .result) (if2 .left) in
+    let both-e = sym (mask-exponents .ensures .answer) ∙ e in
+    let both-u = sym (mask-values .ensures .answer) ∙ u in (
       start .pre .0,
-      values-vector (a .p) (a .beta .0) (a .seed .now) (a .salt .now) (a .i) both-e both-u (c .before .before .before .before .before .mask-values .ensures .content u),
-      mask-vector (a .p) (a .beta .0) (a .seed .now) (a .salt .now) (a .i) both-e both-u (c .before .before .before .before .before .before .before .before .before .mask-exponents .ensures .content e),
+      values-vector (a .p) (a .beta .0) (a .seed .now) (a .salt .now) (a .i) both-e both-u (mask-values .ensures .content u),
+      mask-vector (a .p) (a .beta .0) (a .seed .now) (a .salt .now) (a .i) both-e both-u (mask-exponents .ensures .content e),
       start .pre .1,
       start .pre .2,
     )
@@ -75,12 +103,17 @@ same-length c = search needs
 returns-3 : tie.Need-returns-3
 returns-3 c =
     let start = c .before .before .before .before .before .before .before .before .before .before .before .before .before .before .before .before .before in
+    let mask-exponents = c .before .before .before .before .before .before .before .before .before .before .before .before .mask-exponents in
+    let if1 = c .before .before .before .before .before .before .before .before .before .before .if1 in
+    let mask-values = c .before .before .before .before .before .before .before .before .mask-values in
+    let if2 = c .before .before .before .before .before .before .if2 in
+    let from-mask = c .before .before .from-mask in
     let a = start .args in
-    let e = not-false (c .before .before .before .before .before .before .before .before .before .before .before .before .mask-exponents .result) (c .before .before .before .before .before .before .before .before .before .before .if1 .left) in
-    let u = not-false (c .before .before .before .before .before .before .before .before .mask-values .result) (c .before .before .before .before .before .before .if2 .left) in
+    let e = not-false (mask-exponents .result) (if1 .left) in
+    let u = not-false (mask-values .result) (if2 .left) in
     seed-made (a .p) (a .beta .0) (a .seed .now) (a .salt .now) (a .i)
-    (sym (c .before .before .before .before .before .before .before .before .before .before .before .before .mask-exponents .ensures .answer) ∙ e) (sym (c .before .before .before .before .before .before .before .before .mask-values .ensures .answer) ∙ u)
-    (c .before .before .before .before .before .before .before .before .mask-values .ensures .content u) (c .before .before .before .before .before .before .before .before .before .before .before .before .mask-exponents .ensures .content e) (c .before .before .from-mask .ensures)
+    (sym (mask-exponents .ensures .answer) ∙ e) (sym (mask-values .ensures .answer) ∙ u)
+    (mask-values .ensures .content u) (mask-exponents .ensures .content e) (from-mask .ensures)
 
 pub from-seed-spec : {M : Type 1} → statement M
 from-seed-spec = tie.close (tie.spec slice-aggregate-mask-exponents mask-exponents-requires returns slice-aggregate-mask-values mask-values-requires returns-2 array-share-prefix-us slice-aggregate-from-mask array-share-prefix-es slice-aggregate-from-mask-2 from-mask-requires same-length returns-3)

@@ -1,5 +1,5 @@
 -- `reply_syndrome`: each part of an array is what one step made. Assumes nothing.
-use mathlib.Core.Path.{_≡_, _∙_, ap, sym, subst}
+use mathlib.Core.Path.{_∙_, ap, sym, subst}
 use mathlib.Core.List.{List}
 use Prim.Native.Nat.{ℕ, _-_, _*_, _≤_}
 use native.Mathlib.Nat.{mul-comm}
@@ -8,7 +8,7 @@ use borrow.Author.Needs.{needs}
 use lib.Dec.{T}
 use lib.ListN.{length, replicate}
 use Rattle.packing.specs.Packing.{allBelow}
-use Rattle.linear.specs.Linear.{scaled, syndrome, lessTimes}
+use Rattle.linear.specs.Linear.{syndrome, lessTimes}
 use Rattle.linear.proofs.Sizes.{length-scaled, length-syndrome}
 use Rattle.linear.proofs.Ranges.{below-scaled, below-syndrome}
 use Rattle.expand.proofs.Lent.{Lent, part-length, lent-within, lent-length, lent-part}
@@ -24,7 +24,9 @@ array-borrow-prefix-scaled : tie.Need-array-borrow-prefix-scaled
 array-borrow-prefix-scaled c = search needs
 
 slice-aggregate-scale : tie.Need-slice-aggregate-scale
-slice-aggregate-scale c = part-length (c .before .before .before .before .before .before .args .p .n) (replicate 256 0) (c .before .before .before .before .before .before .pre .0 .0 .n-fits)
+slice-aggregate-scale c =
+    let start = c .before .before .before .before .before .before in
+    part-length (start .args .p .n) (replicate 256 0) (start .pre .0 .0 .n-fits)
 
 scale-requires : tie.Need-scale-requires
 scale-requires c κs =
@@ -37,27 +39,38 @@ scale-requires c κs =
       ys .ranged,
     )
 
-scaled-lent : (c : tie.After-scale) → Lent (c .before .before .before .before .before .before .before .args .p .n) (replicate 256 0) (c .scale .last .1 .1 .0)
-scaled-lent c = record { fits = c .before .before .before .before .before .before .before .pre .0 .0 .n-fits; kept = c .scale .kept .1 .1 .0 }
+abbrev entry-scale : tie.After-scale → tie.Start
+entry-scale c = c .before .before .before .before .before .before .before
+
+scaled-lent : (c : tie.After-scale) → Lent (entry-scale c .args .p .n) (replicate 256 0) (c .scale .last .1 .1 .0)
+scaled-lent c =
+    let start = c .before .before .before .before .before .before .before in
+    record { fits = start .pre .0 .0 .n-fits; kept = c .scale .kept .1 .1 .0 }
 
 array-share-prefix-scaled : tie.Need-array-share-prefix-scaled
 array-share-prefix-scaled c = lent-within (scaled-lent (c .before))
 
 slice-aggregate-syndrome : tie.Need-slice-aggregate-syndrome
-slice-aggregate-syndrome c = lent-length (scaled-lent (c .before .before))
+slice-aggregate-syndrome c =
+    let at-scale = c .before .before in
+    lent-length (scaled-lent at-scale)
 
 -- n - k places fit the array
 fits : (c : tie.Start) → c .args .p .n - c .args .p .k ≤ 256
 fits c = omega (arith, c .pre .0 .0 .n-fits)
 
 array-borrow-prefix-product : tie.Need-array-borrow-prefix-product
-array-borrow-prefix-product c = fits (c .before .before .before .before .before .before .before .before .before)
+array-borrow-prefix-product c =
+    let start = c .before .before .before .before .before .before .before .before .before in
+    fits start
 
 slice-aggregate-syndrome-2 : tie.Need-slice-aggregate-syndrome-2
-slice-aggregate-syndrome-2 c = part-length (c .before .before .before .before .before .before .before .before .before .before .args .p .n - c .before .before .before .before .before .before .before .before .before .before .args .p .k) (replicate 256 0) (fits (c .before .before .before .before .before .before .before .before .before .before))
+slice-aggregate-syndrome-2 c =
+    let start = c .before .before .before .before .before .before .before .before .before .before in
+    part-length (start .args .p .n - start .args .p .k) (replicate 256 0) (fits start)
 
 -- the scaled values are a vector
-scaled-vector : (c : tie.After-scale) → Vector 127 (c .before .before .before .before .before .before .before .args .p .n) (c .scale .last .1 .1 .0)
+scaled-vector : (c : tie.After-scale) → Vector 127 (entry-scale c .args .p .n) (c .scale .last .1 .1 .0)
 scaled-vector c =
     let start = c .before .before .before .before .before .before .before in
     let a = start .args in
@@ -67,32 +80,43 @@ scaled-vector c =
 syndrome-requires : tie.Need-syndrome-requires
 syndrome-requires c κs =
     let start = c .before .before .before .before .before .before .before .before .before .before in
+    let at-scale = c .before .before .before in
     let p = start .args .p in
     let m = part-length (p .n - p .k) (replicate 256 0) (fits start) in
-    let long = ap length (lent-part (scaled-lent (c .before .before .before))) ∙ scaled-vector (c .before .before .before) .long in (
+    let long = ap length (lent-part (scaled-lent at-scale)) ∙ scaled-vector at-scale .long in (
       omega (arith, long, m, start .pre .0 .0 .k≤n),
       start .pre .0 .1 .long ∙ mul-comm (p .n - p .k) (p .k) ∙ ap (λ (x : ℕ). p .k * x) m,
       omega (arith, long, start .pre .0 .0 .n-fits),
       start .pre .0 .1 .ranged,
-      subst (λ (xs : List ℕ). T (allBelow 127 xs)) (sym (lent-part (scaled-lent (c .before .before .before)))) (scaled-vector (c .before .before .before) .ranged),
+      subst (λ (xs : List ℕ). T (allBelow 127 xs)) (sym (lent-part (scaled-lent at-scale))) (scaled-vector at-scale .ranged),
     )
 
-product-lent : (c : tie.After-syndrome) → Lent (c .before .before .before .before .before .before .before .before .before .before .before .args .p .n - c .before .before .before .before .before .before .before .before .before .before .before .args .p .k) (replicate 256 0) (c .syndrome .last .1 .1 .1 .0)
-product-lent c = record { fits = fits (c .before .before .before .before .before .before .before .before .before .before .before); kept = c .syndrome .kept .1 .1 .1 .0 }
+abbrev entry-syndrome : tie.After-syndrome → tie.Start
+entry-syndrome c = c .before .before .before .before .before .before .before .before .before .before .before
+
+product-lent : (c : tie.After-syndrome) → Lent (entry-syndrome c .args .p .n - entry-syndrome c .args .p .k) (replicate 256 0) (c .syndrome .last .1 .1 .1 .0)
+product-lent c =
+    let start = c .before .before .before .before .before .before .before .before .before .before .before in
+    record { fits = fits start; kept = c .syndrome .kept .1 .1 .1 .0 }
 
 array-share-prefix-product : tie.Need-array-share-prefix-product
 array-share-prefix-product c = lent-within (product-lent (c .before))
 
 slice-aggregate-subtract : tie.Need-slice-aggregate-subtract
-slice-aggregate-subtract c = lent-length (product-lent (c .before .before))
+slice-aggregate-subtract c =
+    let at-syndrome = c .before .before in
+    lent-length (product-lent at-syndrome)
 
 subtract-requires : tie.Need-subtract-requires
 subtract-requires c κs =
     let start = c .before .before .before .before .before .before .before .before .before .before .before .before .before .before in
+    let at-syndrome = c .before .before .before in
+    let at-scale = c .before .before .before .before .before .before .before in
+    let syndrome = c .before .before .before .syndrome in
     let p = start .args .p in
-    let m = lent-length (product-lent (c .before .before .before)) in
-    let product = made 127 (p .n - p .k) (lent-part (product-lent (c .before .before .before)) ∙ c .before .before .before .syndrome .ensures)
-    (length-syndrome (p .k) (start .args .vs .now) _ ∙ ap (λ (x : ℕ). x - p .k) (ap length (lent-part (scaled-lent (c .before .before .before .before .before .before .before))) ∙ scaled-vector (c .before .before .before .before .before .before .before) .long))
+    let m = lent-length (product-lent at-syndrome) in
+    let product = made 127 (p .n - p .k) (lent-part (product-lent at-syndrome) ∙ syndrome .ensures)
+    (length-syndrome (p .k) (start .args .vs .now) _ ∙ ap (λ (x : ℕ). x - p .k) (ap length (lent-part (scaled-lent at-scale)) ∙ scaled-vector at-scale .long))
     (below-syndrome (p .k) (start .args .vs .now) _) in (
       start .pre .0 .3,
       start .pre .1 .2 ∙ m,
@@ -106,10 +130,16 @@ same-length c = search needs
 
 returns : tie.Need-returns
 returns c =
-    let a = c .before .before .before .before .before .before .before .before .before .before .before .before .before .before .before .before .before .args in
-    let scaling = lent-part (scaled-lent (c .before .before .before .before .before .before .before .before .before .before)) ∙ c .before .before .before .before .before .before .before .before .before .before .scale .ensures in
-    let product = lent-part (product-lent (c .before .before .before .before .before .before)) ∙ c .before .before .before .before .before .before .syndrome .ensures ∙ ap (λ (x : List ℕ). syndrome (a .p .k) (a .vs .now) x) scaling in
-    c .before .before .subtract .ensures ∙ ap (λ (x : List ℕ). lessTimes (a .beta .0) x (a .s .now)) product
+    let start = c .before .before .before .before .before .before .before .before .before .before .before .before .before .before .before .before .before in
+    let at-scale = c .before .before .before .before .before .before .before .before .before .before in
+    let at-syndrome = c .before .before .before .before .before .before in
+    let scale = c .before .before .before .before .before .before .before .before .before .before .scale in
+    let syndrome-call = c .before .before .before .before .before .before .syndrome in
+    let subtract = c .before .before .subtract in
+    let a = start .args in
+    let scaling = lent-part (scaled-lent at-scale) ∙ scale .ensures in
+    let product = lent-part (product-lent at-syndrome) ∙ syndrome-call .ensures ∙ ap (λ (x : List ℕ). syndrome (a .p .k) (a .vs .now) x) scaling in
+    subtract .ensures ∙ ap (λ (x : List ℕ). lessTimes (a .beta .0) x (a .s .now)) product
 
 pub reply-syndrome-spec : {M : Type 1} → statement M
 reply-syndrome-spec = tie.close (tie.spec sub-m array-borrow-prefix-scaled slice-aggregate-scale scale-requires array-share-prefix-scaled slice-aggregate-syndrome array-borrow-prefix-product slice-aggregate-syndrome-2 syndrome-requires array-share-prefix-product slice-aggregate-subtract subtract-requires same-length returns)

@@ -15,7 +15,9 @@ tagged-requires-3 c κs = search needs
 
 returns : tie.Need-returns
 unfolding string3 string4 string6
-returns c = record { c0 = c .before .before .tagged .ensures; c1 = c .before .tagged2 .ensures; h = c .tagged3 .ensures }
+returns c =
+    let tagged = c .before .before .tagged in
+    record { c0 = tagged .ensures; c1 = c .before .tagged2 .ensures; h = c .tagged3 .ensures }
 
 pub begin-spec : {M : Type 1} → statement M
 begin-spec = tie.close (tie.spec tagged-requires tagged-requires-2 tagged-requires-3 returns)

@@ -13,16 +13,20 @@ packed-size-requires-2 : tie.Need-packed-size-requires-2
 packed-size-requires-2 c κs = search needs
 
 add-result : tie.Need-add-result
-add-result c = omega (arith, c .before .packed-size .ensures, c .packed-size2 .ensures, c .before .before .before .pre .n-fits)
+add-result c =
+    let start = c .before .before .before in
+    omega (arith, c .before .packed-size .ensures, c .packed-size2 .ensures, start .pre .n-fits)
 
 returns : tie.Need-returns
 returns c = rw (eq-eqb (c .before .args .b) 1 (c .if1 .taken))
 
 returns-2 : tie.Need-returns-2
 returns-2 c =
+    let start = c .before .before .before in
+    let if1 = c .before .before .if1 in
     let seven = c .before .packed-size .ensures in
     let three = c .packed-size2 .ensures in
-    rw (ne-eqb (c .before .before .before .args .b) 1 (c .before .before .if1 .left)) (λ i. seven i + three i)
+    rw (ne-eqb (start .args .b) 1 (if1 .left)) (λ i. seven i + three i)
 
 pub reply-size-spec : {M : Type 1} → statement M
 reply-size-spec = tie.close (tie.spec packed-size-requires packed-size-requires-2 add-result returns returns-2)

@@ -1,7 +1,6 @@
 -- `run`: after j rounds that passed, the sponges hold their digests. Assumes nothing.
-use mathlib.Core.Path.{_≡_, _∙_, ap, sym}
-use mathlib.Core.List.{List}
-use Prim.Native.Nat.{ℕ, _+_, _-_, _<_, _≤_}
+use mathlib.Core.Path.{_≡_}
+use Prim.Native.Nat.{_+_, _-_, _≤_}
 use native.Mathlib.Omega.{arith}
 use borrow.Author.Needs.{needs}
 use lib.ListN.{length, getD}
@@ -24,38 +23,55 @@ begin-requires c κs = search needs
 
 loop-holds : tie.Need-loop-holds Inv-loop μ-loop
 loop-holds c =
-    let a = c .before .before .before .before .before .before .before .args in
+    let at-args = c .before .before .before .before .before .before .before in
+    let a = at-args .args in
     (omega arith, running-none (a .p) (a .vs .now) (a .s .now) (a .salt .now) (a .rounds .now) (a .betas .now) (a .bs .now) (c .begin .ensures))
 
 shared-slice-read-b : tie.Need-shared-slice-read-b Inv-loop μ-loop
-shared-slice-read-b c = omega (arith, c .before .before .before .before .before .before .before .before .before .before .pre .1 .1)
+shared-slice-read-b c =
+    let pre = c .before .before .before .before .before .before .before .before .before .before .pre in
+    omega (arith, pre .1 .1)
 
 -- the part is within the rounds
 within : (c : tie.In-loop Inv-loop μ-loop) → c .before .loop .at + partSize (c .before .before .before .before .before .before .before .before .before .args .p) (getD (c .before .before .before .before .before .before .before .before .before .args .bs .now) (c .before .loop .j) 0) ≤ length (c .before .before .before .before .before .before .before .before .before .args .rounds .now)
 within c =
-    let a = c .before .before .before .before .before .before .before .before .before .args in
-    part-within (a .p) (a .vs .now) (a .s .now) (a .salt .now) (a .rounds .now) (a .betas .now) (a .bs .now) (c .before .loop .inv .1) (c .loop-test .taken) (c .before .before .before .before .before .before .before .before .before .pre .1 .2)
+    let args = c .before .before .before .before .before .before .before .before .before .args in
+    let pre = c .before .before .before .before .before .before .before .before .before .pre in
+    let a = args in
+    part-within (a .p) (a .vs .now) (a .s .now) (a .salt .now) (a .rounds .now) (a .betas .now) (a .bs .now) (c .before .loop .inv .1) (c .loop-test .taken) (pre .1 .2)
 
 -- where the part ends, as the code computes it
 ends : (c : tie.After-reply-size Inv-loop μ-loop) → c .before .before .before .loop .at + c .reply-size .result + c .before .before .before .before .before .before .before .before .before .before .before .args .p .digest ≡ c .before .before .before .loop .at + partSize (c .before .before .before .before .before .before .before .before .before .before .before .args .p) (getD (c .before .before .before .before .before .before .before .before .before .before .before .args .bs .now) (c .before .before .before .loop .j) 0)
 ends c =
-    let r : c .reply-size .result ≡ replySize (c .before .before .before .before .before .before .before .before .before .before .before .args .p) (getD (c .before .before .before .before .before .before .before .before .before .before .before .args .bs .now) (c .before .before .before .loop .j) 0) = c .reply-size .ensures in
+    let args = c .before .before .before .before .before .before .before .before .before .before .before .args in
+    let loop = c .before .before .before .loop in
+    let r : c .reply-size .result ≡ replySize (args .p) (getD (args .bs .now) (loop .j) 0) = c .reply-size .ensures in
     rw r (omega arith)
 
 reply-size-requires : tie.Need-reply-size-requires Inv-loop μ-loop
 reply-size-requires c κs = search needs
 
 add-end : tie.Need-add-end Inv-loop μ-loop
-add-end c = omega (arith, c .before .before .before .before .before .before .before .before .before .before .before, ends (c), within (c .before .before))
+add-end c =
+    let at-args = c .before .before .before .before .before .before .before .before .before .before .before in
+    let at-loop-test = c .before .before in
+    omega (arith, at-args, ends (c), within at-loop-test)
 
 add-end-2 : tie.Need-add-end-2 Inv-loop μ-loop
-add-end-2 c = omega (arith, c .before .before .before .before .before .before .before .before .before .before .before, ends (c), within (c .before .before))
+add-end-2 c =
+    let at-args = c .before .before .before .before .before .before .before .before .before .before .before in
+    let at-loop-test = c .before .before in
+    omega (arith, at-args, ends (c), within at-loop-test)
 
 add-step : tie.Need-add-step Inv-loop μ-loop
-add-step c = omega (arith, c .before .before .before .before .before .before .before .before .before .before .before .pre .0 .0 .t-fits)
+add-step c =
+    let pre = c .before .before .before .before .before .before .before .before .before .before .before .pre in
+    omega (arith, pre .0 .0 .t-fits)
 
 shared-slice-read-t18 : tie.Need-shared-slice-read-t18 Inv-loop μ-loop
-shared-slice-read-t18 c = omega (arith, c .before .before .before .before .before .before .before .before .before .before .before .before .pre .1 .0 .long)
+shared-slice-read-t18 c =
+    let pre = c .before .before .before .before .before .before .before .before .before .before .before .before .pre in
+    omega (arith, pre .1 .0 .long)
 
 sub-step : tie.Need-sub-step Inv-loop μ-loop
 sub-step c = omega arith
@@ -64,39 +80,59 @@ part-step-start : tie.Need-part-step-start Inv-loop μ-loop
 part-step-start c = omega arith
 
 part-step-end : tie.Need-part-step-end Inv-loop μ-loop
-part-step-end c = omega (arith, ends (c .before), within (c .before .before .before))
+part-step-end c =
+    let at-loop-test = c .before .before .before in
+    omega (arith, ends (c .before), within at-loop-test)
 
 step-requires : tie.Need-step-requires Inv-loop μ-loop
 step-requires c κs =
-    let a = c .before .before .before .before .before .before .before .before .before .before .before .before .before .args in (
-      (c .before .before .before .before .before .before .before .before .before .before .before .before .before .pre .0 .0, c .before .before .before .before .before .before .before .before .before .before .before .before .before .pre .0 .1, c .before .before .before .before .before .before .before .before .before .before .before .before .before .pre .0 .2, below-at (below 127 (a .betas .now) (c .before .before .before .before .before .before .before .before .before .before .before .before .before .pre .1 .0 .ranged)) (c .before .before .before .before .before .loop .j) (omega (arith, c .before .before .before .before .before .before .before .before .before .before .before .before .before .pre .1 .0 .long))),
+    let at-reply-size = c .before .before in
+    let args = c .before .before .before .before .before .before .before .before .before .before .before .before .before .args in
+    let pre = c .before .before .before .before .before .before .before .before .before .before .before .before .before .pre in
+    let loop = c .before .before .before .before .before .loop in
+    let loop-test = c .before .before .before .before .loop-test in
+    let a = args in (
+      (pre .0 .0, pre .0 .1, pre .0 .2, below-at (below 127 (a .betas .now) (pre .1 .0 .ranged)) (loop .j) (omega (arith, pre .1 .0 .long))),
       (
-        part-long (a .p) (a .vs .now) (a .s .now) (a .salt .now) (a .rounds .now) (a .betas .now) (a .bs .now) (c .before .before .before .before .before .loop .inv .1) (c .before .before .before .before .loop-test .taken) (ends (c .before .before)) (c .before .before .before .before .before .before .before .before .before .before .before .before .before .pre .1 .2),
-        all-ready (c .before .before .before .before .before .loop .inv .1 .holds),
+        part-long (a .p) (a .vs .now) (a .s .now) (a .salt .now) (a .rounds .now) (a .betas .now) (a .bs .now) (loop .inv .1) (loop-test .taken) (ends at-reply-size) (pre .1 .2),
+        all-ready (loop .inv .1 .holds),
       ),
     )
 
 returns : tie.Need-returns Inv-loop μ-loop
 returns c =
-    let a = c .before .before .before .before .before .before .before .before .before .before .before .before .before .before .before .before .args in
-    running-stops (a .p) (a .vs .now) (a .s .now) (a .salt .now) (a .rounds .now) (a .betas .now) (a .bs .now) (c .before .before .before .before .before .before .before .before .loop .inv .1) (c .before .before .before .before .before .before .before .loop-test .taken) (ends (c .before .before .before .before .before)) (c .before .before .step .ensures) (c .if1 .taken)
+    let at-reply-size = c .before .before .before .before .before in
+    let args = c .before .before .before .before .before .before .before .before .before .before .before .before .before .before .before .before .args in
+    let loop = c .before .before .before .before .before .before .before .before .loop in
+    let loop-test = c .before .before .before .before .before .before .before .loop-test in
+    let step = c .before .before .step in
+    let a = args in
+    running-stops (a .p) (a .vs .now) (a .s .now) (a .salt .now) (a .rounds .now) (a .betas .now) (a .bs .now) (loop .inv .1) (loop-test .taken) (ends at-reply-size) (step .ensures) (c .if1 .taken)
 
 add-j : tie.Need-add-j Inv-loop μ-loop
-add-j c = omega (arith, c .before .before .before .before .before .before .before .before .before .before .before .before .before .before .before .before .before .pre .0 .0 .t-fits)
+add-j c =
+    let pre = c .before .before .before .before .before .before .before .before .before .before .before .before .before .before .before .before .before .pre in
+    omega (arith, pre .0 .0 .t-fits)
 
 loop-less : tie.Need-loop-less Inv-loop μ-loop
 loop-less c = search needs
 
 loop-again : tie.Need-loop-again Inv-loop μ-loop
 loop-again c =
-    let a = c .before .before .before .before .before .before .before .before .before .before .before .before .before .before .before .before .before .args in (
+    let at-reply-size = c .before .before .before .before .before .before in
+    let args = c .before .before .before .before .before .before .before .before .before .before .before .before .before .before .before .before .before .args in
+    let loop = c .before .before .before .before .before .before .before .before .before .loop in
+    let loop-test = c .before .before .before .before .before .before .before .before .loop-test in
+    let step = c .before .before .before .step in
+    let a = args in (
       omega arith,
-      running-more (a .p) (a .vs .now) (a .s .now) (a .salt .now) (a .rounds .now) (a .betas .now) (a .bs .now) (c .before .before .before .before .before .before .before .before .before .loop .inv .1) (c .before .before .before .before .before .before .before .before .loop-test .taken) (ends (c .before .before .before .before .before .before)) (c .before .before .before .step .ensures) (c .before .if1 .left),
+      running-more (a .p) (a .vs .now) (a .s .now) (a .salt .now) (a .rounds .now) (a .betas .now) (a .bs .now) (loop .inv .1) (loop-test .taken) (ends at-reply-size) (step .ensures) (c .before .if1 .left),
     )
 
 returns-2 : tie.Need-returns-2 Inv-loop μ-loop
 returns-2 c =
-    let a = c .before .before .before .before .before .before .before .before .before .args in
+    let args = c .before .before .before .before .before .before .before .before .before .args in
+    let a = args in
     running-end (a .p) (a .vs .now) (a .s .now) (a .salt .now) (a .rounds .now) (a .betas .now) (a .bs .now) (c .before .loop .inv .1) (omega arith)
 
 pub run-spec : {M : Type 1} → statement M

@@ -1,6 +1,6 @@
 -- `pieces`: the challenges are drawn, the rounds run, c and h compared. Assumes nothing.
 use mathlib.Core.Path.{_≡_, _∙_, ap, sym}
-use mathlib.Core.Bool.{Bool, true, false}
+use mathlib.Core.Bool.{true}
 use mathlib.Core.List.{List, _++_}
 use Prim.Native.Nat.{ℕ, _+_, _-_, _*_, _≤_}
 use native.Mathlib.Omega.{arith}
@@ -9,7 +9,7 @@ use borrow.Author.Tests.{not-true, not-false}
 use lib.ListN.{length, take, drop, replicate, length-drop}
 use lib.Seq.{length-take-le, take-all}
 use Rattle.outcome.specs.Answer.{firstRefusal}
-use Rattle.scheme.specs.Sign.{firstChallenges, firstDrawn, secondChallenges, secondDrawn, partSize, signatureSize}
+use Rattle.scheme.specs.Sign.{firstChallenges, firstDrawn, secondChallenges, secondDrawn, partSize}
 use Rattle.scheme.specs.Verify.{pieceChecks, saltOf, cOf, hOf, roundsOf}
 use Rattle.expand.proofs.Lent.{Lent, part-length, lent-within, lent-length, lent-part}
 use Rattle.verifier.specs.Vector.{Vector}
@@ -55,13 +55,19 @@ rounds-long c =
     ap length (tail (3 * c .args .p .digest) (c .args .sig .now)) ∙ length-drop (3 * c .args .p .digest) (c .args .sig .now) ∙ omega (arith, sized c)
 
 mul-d2 : tie.Need-mul-d2
-mul-d2 c = omega (arith, c .before .before .before .before .pre .0 .digest-fits)
+mul-d2 c =
+    let start = c .before .before .before .before in
+    omega (arith, start .pre .0 .digest-fits)
 
 mul-d3 : tie.Need-mul-d3
-mul-d3 c = omega (arith, c .before .before .before .before .pre .0 .digest-fits)
+mul-d3 c =
+    let start = c .before .before .before .before in
+    omega (arith, start .pre .0 .digest-fits)
 
 slice-aggregate-salt : tie.Need-slice-aggregate-salt
-slice-aggregate-salt c = sym (length-take-le _ _ (omega (arith, sized (c .before .before .before .before .before))))
+slice-aggregate-salt c =
+    let start = c .before .before .before .before .before in
+    sym (length-take-le _ _ (omega (arith, sized start)))
 
 sub-c : tie.Need-sub-c
 sub-c c = omega arith
@@ -70,7 +76,9 @@ part-c-start : tie.Need-part-c-start
 part-c-start c = omega arith
 
 part-c-end : tie.Need-part-c-end
-part-c-end c = omega (arith, sized (c .before .before .before .before .before))
+part-c-end c =
+    let start = c .before .before .before .before .before in
+    omega (arith, sized start)
 
 sub-h : tie.Need-sub-h
 sub-h c = omega arith
@@ -79,100 +87,153 @@ part-h-start : tie.Need-part-h-start
 part-h-start c = omega arith
 
 part-h-end : tie.Need-part-h-end
-part-h-end c = omega (arith, sized (c .before .before .before .before .before .before))
+part-h-end c =
+    let start = c .before .before .before .before .before .before in
+    omega (arith, sized start)
 
 slice-aggregate-first-challenges : tie.Need-slice-aggregate-first-challenges
 slice-aggregate-first-challenges c = search needs
 
 first-challenges-requires : tie.Need-first-challenges-requires
 first-challenges-requires c κs =
-    let fits : c .before .before .before .before .before .before .before .before .args .p .t + 8 ≤ 520 = omega (arith, c .before .before .before .before .before .before .before .before .pre .0 .t-fits) in
-    (c .before .before .before .before .before .before .before .before .pre .0, fits)
+    let start = c .before .before .before .before .before .before .before .before in
+    let fits : start .args .p .t + 8 ≤ 520 = omega (arith, start .pre .0 .t-fits) in
+    (start .pre .0, fits)
 
 returns : tie.Need-returns
 returns c =
     let start = c .before .before .before .before .before .before .before .before .before .before .before in
+    let first-challenges = c .before .before .first-challenges in
     let a = start .args in
     first-short (a .p) (a .vs .now) (a .s .now) (salt start) (commitment start) (hash start) (rounds start) (a .msg .now)
-    (sym (c .before .before .first-challenges .ensures .answer) ∙ not-true (c .before .before .first-challenges .result) (c .if1 .taken))
+    (sym (first-challenges .ensures .answer) ∙ not-true (first-challenges .result) (c .if1 .taken))
     ∙ pieces-are start
 
+abbrev entry-first-challenges : tie.After-first-challenges → tie.Start
+entry-first-challenges c = c .before .before .before .before .before .before .before .before .before
+
 -- the first challenges
-betas-within : (c : tie.After-first-challenges) → c .before .before .before .before .before .before .before .before .before .args .p .t ≤ length (c .first-challenges .last .1 .1 .1 .1 .0)
-betas-within c = rw (c .first-challenges .kept .1 .1 .1 .1 .0) (omega (arith, c .before .before .before .before .before .before .before .before .before .pre .0 .t-fits))
+betas-within : (c : tie.After-first-challenges) → entry-first-challenges c .args .p .t ≤ length (c .first-challenges .last .1 .1 .1 .1 .0)
+betas-within c =
+    let start = c .before .before .before .before .before .before .before .before .before in
+    rw (c .first-challenges .kept .1 .1 .1 .1 .0) (omega (arith, start .pre .0 .t-fits))
 
-drawn : (c : tie.Else1) → firstDrawn (c .before .before .before .before .before .before .before .before .before .before .before .args .p) (commitment (c .before .before .before .before .before .before .before .before .before .before .before)) (salt (c .before .before .before .before .before .before .before .before .before .before .before)) (c .before .before .before .before .before .before .before .before .before .before .before .args .msg .now) ≡ true
-drawn c = sym (c .before .before .first-challenges .ensures .answer) ∙ not-false (c .before .before .first-challenges .result) (c .if1 .left)
+abbrev entry-else1 : tie.Else1 → tie.Start
+entry-else1 c = c .before .before .before .before .before .before .before .before .before .before .before
 
-betas-are : (c : tie.Else1) → take (c .before .before .before .before .before .before .before .before .before .before .before .args .p .t) (c .before .before .first-challenges .last .1 .1 .1 .1 .0) ≡ firstChallenges (c .before .before .before .before .before .before .before .before .before .before .before .args .p) (commitment (c .before .before .before .before .before .before .before .before .before .before .before)) (salt (c .before .before .before .before .before .before .before .before .before .before .before)) (c .before .before .before .before .before .before .before .before .before .before .before .args .msg .now)
-betas-are c = c .before .before .first-challenges .ensures .content (not-false (c .before .before .first-challenges .result) (c .if1 .left))
+drawn : (c : tie.Else1) → firstDrawn (entry-else1 c .args .p) (commitment (entry-else1 c)) (salt (entry-else1 c)) (entry-else1 c .args .msg .now) ≡ true
+drawn c =
+    let first-challenges = c .before .before .first-challenges in
+    sym (first-challenges .ensures .answer) ∙ not-false (first-challenges .result) (c .if1 .left)
 
-betas-vector : (c : tie.Else1) → Vector 127 (c .before .before .before .before .before .before .before .before .before .before .before .args .p .t) (take (c .before .before .before .before .before .before .before .before .before .before .before .args .p .t) (c .before .before .first-challenges .last .1 .1 .1 .1 .0))
+betas-are : (c : tie.Else1) → take (entry-else1 c .args .p .t) (c .before .before .first-challenges .last .1 .1 .1 .1 .0) ≡ firstChallenges (entry-else1 c .args .p) (commitment (entry-else1 c)) (salt (entry-else1 c)) (entry-else1 c .args .msg .now)
+betas-are c =
+    let first-challenges = c .before .before .first-challenges in
+    first-challenges .ensures .content (not-false (first-challenges .result) (c .if1 .left))
+
+betas-vector : (c : tie.Else1) → Vector 127 (entry-else1 c .args .p .t) (take (entry-else1 c .args .p .t) (c .before .before .first-challenges .last .1 .1 .1 .1 .0))
 betas-vector c =
     let start = c .before .before .before .before .before .before .before .before .before .before .before in
     let a = start .args in
     first-vector (a .p) (a .vs .now) (a .s .now) (salt start) (commitment start) (hash start) (rounds start) (a .msg .now) (drawn c) (betas-are c)
 
 array-share-prefix-betas : tie.Need-array-share-prefix-betas
-array-share-prefix-betas c = betas-within (c .before .before)
+array-share-prefix-betas c =
+    let at-first-challenges = c .before .before in
+    betas-within at-first-challenges
 
 slice-aggregate-second-challenges : tie.Need-slice-aggregate-second-challenges
-slice-aggregate-second-challenges c = sym (length-take-le _ _ (betas-within (c .before .before .before)))
+slice-aggregate-second-challenges c =
+    let at-first-challenges = c .before .before .before in
+    sym (length-take-le _ _ (betas-within at-first-challenges))
 
 array-borrow-prefix-bs : tie.Need-array-borrow-prefix-bs
-array-borrow-prefix-bs c = c .before .before .before .before .before .before .before .before .before .before .before .before .pre .0 .t-fits
+array-borrow-prefix-bs c =
+    let start = c .before .before .before .before .before .before .before .before .before .before .before .before in
+    start .pre .0 .t-fits
 
 slice-aggregate-second-challenges-2 : tie.Need-slice-aggregate-second-challenges-2
-slice-aggregate-second-challenges-2 c = part-length (c .before .before .before .before .before .before .before .before .before .before .before .before .before .args .p .t) (replicate 512 0) (c .before .before .before .before .before .before .before .before .before .before .before .before .before .pre .0 .t-fits)
+slice-aggregate-second-challenges-2 c =
+    let start = c .before .before .before .before .before .before .before .before .before .before .before .before .before in
+    part-length (start .args .p .t) (replicate 512 0) (start .pre .0 .t-fits)
 
 second-challenges-requires : tie.Need-second-challenges-requires
 second-challenges-requires c κs =
-    let betas = betas-vector (c .before .before) in
-    (c .before .before .before .before .before .before .before .before .before .before .before .before .before .pre .0, betas .long, betas .ranged, sym (part-length (c .before .before .before .before .before .before .before .before .before .before .before .before .before .args .p .t) (replicate 512 0) (c .before .before .before .before .before .before .before .before .before .before .before .before .before .pre .0 .t-fits)))
+    let start = c .before .before .before .before .before .before .before .before .before .before .before .before .before in
+    let at-if1 = c .before .before in
+    let betas = betas-vector at-if1 in
+    (start .pre .0, betas .long, betas .ranged, sym (part-length (start .args .p .t) (replicate 512 0) (start .pre .0 .t-fits)))
 
 returns-2 : tie.Need-returns-2
 returns-2 c =
     let start = c .before .before .before .before .before .before .before .before .before .before .before .before .before .before .before .before in
+    let at-if1 = c .before .before .before .before .before in
+    let second-challenges = c .before .before .second-challenges in
     let a = start .args in
-    second-short (a .p) (a .vs .now) (a .s .now) (salt start) (commitment start) (hash start) (rounds start) (a .msg .now) (drawn (c .before .before .before .before .before)) (betas-are (c .before .before .before .before .before))
-    (sym (c .before .before .second-challenges .ensures .answer) ∙ not-true (c .before .before .second-challenges .result) (c .if2 .taken))
+    second-short (a .p) (a .vs .now) (a .s .now) (salt start) (commitment start) (hash start) (rounds start) (a .msg .now) (drawn at-if1) (betas-are at-if1)
+    (sym (second-challenges .ensures .answer) ∙ not-true (second-challenges .result) (c .if2 .taken))
     ∙ pieces-are start
 
+abbrev entry-second-challenges : tie.After-second-challenges → tie.Start
+entry-second-challenges c = c .before .before .before .before .before .before .before .before .before .before .before .before .before .before
+
 -- the second challenges
-bs-lent : (c : tie.After-second-challenges) → Lent (c .before .before .before .before .before .before .before .before .before .before .before .before .before .before .args .p .t) (replicate 512 0) (c .second-challenges .last .1 .1 .1 .1 .1 .1 .0)
-bs-lent c = record { fits = c .before .before .before .before .before .before .before .before .before .before .before .before .before .before .pre .0 .t-fits; kept = c .second-challenges .kept .1 .1 .1 .1 .1 .1 .0 }
+bs-lent : (c : tie.After-second-challenges) → Lent (entry-second-challenges c .args .p .t) (replicate 512 0) (c .second-challenges .last .1 .1 .1 .1 .1 .1 .0)
+bs-lent c =
+    let start = c .before .before .before .before .before .before .before .before .before .before .before .before .before .before in
+    record { fits = start .pre .0 .t-fits; kept = c .second-challenges .kept .1 .1 .1 .1 .1 .1 .0 }
 
-drawn2 : (c : tie.Else2) → secondDrawn (c .before .before .before .before .before .before .before .before .before .before .before .before .before .before .before .before .args .p) (commitment (c .before .before .before .before .before .before .before .before .before .before .before .before .before .before .before .before)) (take (c .before .before .before .before .before .before .before .before .before .before .before .before .before .before .before .before .args .p .t) (c .before .before .before .before .before .before .before .first-challenges .last .1 .1 .1 .1 .0)) (hash (c .before .before .before .before .before .before .before .before .before .before .before .before .before .before .before .before)) (salt (c .before .before .before .before .before .before .before .before .before .before .before .before .before .before .before .before)) (c .before .before .before .before .before .before .before .before .before .before .before .before .before .before .before .before .args .msg .now) ≡ true
-drawn2 c = sym (c .before .before .second-challenges .ensures .answer) ∙ not-false (c .before .before .second-challenges .result) (c .if2 .left)
+abbrev entry-else2 : tie.Else2 → tie.Start
+entry-else2 c = c .before .before .before .before .before .before .before .before .before .before .before .before .before .before .before .before
 
-bs-are : (c : tie.Else2) → take (c .before .before .before .before .before .before .before .before .before .before .before .before .before .before .before .before .args .p .t) (c .before .before .second-challenges .last .1 .1 .1 .1 .1 .1 .0 ++ drop (c .before .before .before .before .before .before .before .before .before .before .before .before .before .before .before .before .args .p .t) (replicate 512 0)) ≡
-    secondChallenges (c .before .before .before .before .before .before .before .before .before .before .before .before .before .before .before .before .args .p) (commitment (c .before .before .before .before .before .before .before .before .before .before .before .before .before .before .before .before)) (firstChallenges (c .before .before .before .before .before .before .before .before .before .before .before .before .before .before .before .before .args .p) (commitment (c .before .before .before .before .before .before .before .before .before .before .before .before .before .before .before .before)) (salt (c .before .before .before .before .before .before .before .before .before .before .before .before .before .before .before .before)) (c .before .before .before .before .before .before .before .before .before .before .before .before .before .before .before .before .args .msg .now)) (hash (c .before .before .before .before .before .before .before .before .before .before .before .before .before .before .before .before)) (salt (c .before .before .before .before .before .before .before .before .before .before .before .before .before .before .before .before)) (c .before .before .before .before .before .before .before .before .before .before .before .before .before .before .before .before .args .msg .now)
+drawn2 : (c : tie.Else2) → secondDrawn (entry-else2 c .args .p) (commitment (entry-else2 c)) (take (entry-else2 c .args .p .t) (c .before .before .before .before .before .before .before .first-challenges .last .1 .1 .1 .1 .0)) (hash (entry-else2 c)) (salt (entry-else2 c)) (entry-else2 c .args .msg .now) ≡ true
+drawn2 c =
+    let second-challenges = c .before .before .second-challenges in
+    sym (second-challenges .ensures .answer) ∙ not-false (second-challenges .result) (c .if2 .left)
+
+bs-are : (c : tie.Else2) → take (entry-else2 c .args .p .t) (c .before .before .second-challenges .last .1 .1 .1 .1 .1 .1 .0 ++ drop (entry-else2 c .args .p .t) (replicate 512 0)) ≡
+    secondChallenges (entry-else2 c .args .p) (commitment (entry-else2 c)) (firstChallenges (entry-else2 c .args .p) (commitment (entry-else2 c)) (salt (entry-else2 c)) (entry-else2 c .args .msg .now)) (hash (entry-else2 c)) (salt (entry-else2 c)) (entry-else2 c .args .msg .now)
 bs-are c =
     let start = c .before .before .before .before .before .before .before .before .before .before .before .before .before .before .before .before in
+    let at-second-challenges = c .before .before in
+    let at-if1 = c .before .before .before .before .before in
+    let second-challenges = c .before .before .second-challenges in
     let a = start .args in
-    let last = c .before .before .second-challenges .last .1 .1 .1 .1 .1 .1 .0 in
-    let lent = bs-lent (c .before .before) in
+    let last = second-challenges .last .1 .1 .1 .1 .1 .1 .0 in
+    let lent = bs-lent at-second-challenges in
     let all : take (a .p .t) last ≡ last = take-all (a .p .t) last (omega (arith, lent .kept, part-length (a .p .t) (replicate 512 0) (lent .fits))) in
-    lent-part lent ∙ sym all ∙ c .before .before .second-challenges .ensures .content (not-false (c .before .before .second-challenges .result) (c .if2 .left))
-    ∙ ap (λ (x : List ℕ). secondChallenges (a .p) (commitment start) x (hash start) (salt start) (a .msg .now)) (betas-are (c .before .before .before .before .before))
+    lent-part lent ∙ sym all ∙ second-challenges .ensures .content (not-false (second-challenges .result) (c .if2 .left))
+    ∙ ap (λ (x : List ℕ). secondChallenges (a .p) (commitment start) x (hash start) (salt start) (a .msg .now)) (betas-are at-if1)
 
 array-share-prefix-betas-2 : tie.Need-array-share-prefix-betas-2
-array-share-prefix-betas-2 c = betas-within (c .before .before .before .before .before .before .before)
+array-share-prefix-betas-2 c =
+    let at-first-challenges = c .before .before .before .before .before .before .before in
+    betas-within at-first-challenges
 
 slice-aggregate-run : tie.Need-slice-aggregate-run
-slice-aggregate-run c = sym (length-take-le _ _ (betas-within (c .before .before .before .before .before .before .before .before)))
+slice-aggregate-run c =
+    let at-first-challenges = c .before .before .before .before .before .before .before .before in
+    sym (length-take-le _ _ (betas-within at-first-challenges))
 
 array-share-prefix-bs : tie.Need-array-share-prefix-bs
-array-share-prefix-bs c = lent-within (bs-lent (c .before .before .before))
+array-share-prefix-bs c =
+    let at-second-challenges = c .before .before .before in
+    lent-within (bs-lent at-second-challenges)
 
 slice-aggregate-run-2 : tie.Need-slice-aggregate-run-2
-slice-aggregate-run-2 c = lent-length (bs-lent (c .before .before .before .before))
+slice-aggregate-run-2 c =
+    let at-second-challenges = c .before .before .before .before in
+    lent-length (bs-lent at-second-challenges)
 
 sub-run : tie.Need-sub-run
-sub-run c = omega (arith, sized (c .before .before .before .before .before .before .before .before .before .before .before .before .before .before .before .before .before .before))
+sub-run c =
+    let start = c .before .before .before .before .before .before .before .before .before .before .before .before .before .before .before .before .before .before in
+    omega (arith, sized start)
 
 part-run-start : tie.Need-part-run-start
-part-run-start c = omega (arith, sized (c .before .before .before .before .before .before .before .before .before .before .before .before .before .before .before .before .before .before))
+part-run-start c =
+    let start = c .before .before .before .before .before .before .before .before .before .before .before .before .before .before .before .before .before .before in
+    omega (arith, sized start)
 
 part-run-end : tie.Need-part-run-end
 part-run-end c = omega arith
@@ -180,32 +241,43 @@ part-run-end c = omega arith
 run-requires : tie.Need-run-requires
 run-requires c κs =
     let start = c .before .before .before .before .before .before .before .before .before .before .before .before .before .before .before .before .before .before .before in
+    let at-if1 = c .before .before .before .before .before .before .before .before in
+    let at-if2 = c .before .before .before in
     let a = start .args in (
       (start .pre .0, start .pre .1, start .pre .2),
       (
-        betas-vector (c .before .before .before .before .before .before .before .before),
-        second-long (a .p) (a .vs .now) (a .s .now) (salt start) (commitment start) (hash start) (rounds start) (a .msg .now) (drawn (c .before .before .before .before .before .before .before .before)) (betas-are (c .before .before .before .before .before .before .before .before)) (drawn2 (c .before .before .before)) (bs-are (c .before .before .before)) (start .pre .0),
-        offset-all (a .p) (a .vs .now) (a .s .now) (salt start) (commitment start) (hash start) (rounds start) (a .msg .now) (drawn (c .before .before .before .before .before .before .before .before)) (betas-are (c .before .before .before .before .before .before .before .before)) (drawn2 (c .before .before .before)) (bs-are (c .before .before .before)) (start .pre .0) (rounds-long start),
+        betas-vector at-if1,
+        second-long (a .p) (a .vs .now) (a .s .now) (salt start) (commitment start) (hash start) (rounds start) (a .msg .now) (drawn at-if1) (betas-are at-if1) (drawn2 at-if2) (bs-are at-if2) (start .pre .0),
+        offset-all (a .p) (a .vs .now) (a .s .now) (salt start) (commitment start) (hash start) (rounds start) (a .msg .now) (drawn at-if1) (betas-are at-if1) (drawn2 at-if2) (bs-are at-if2) (start .pre .0) (rounds-long start),
       ),
     )
 
 returns-3 : tie.Need-returns-3
 returns-3 c =
     let start = c .before .before .before .before .before .before .before .before .before .before .before .before .before .before .before .before .before .before .before .before .before .before in
+    let at-if1 = c .before .before .before .before .before .before .before .before .before .before .before in
+    let at-if2 = c .before .before .before .before .before .before in
+    let run = c .before .before .run in
     let a = start .args in
-    rounds-stop (a .p) (a .vs .now) (a .s .now) (salt start) (commitment start) (hash start) (rounds start) (a .msg .now) (drawn (c .before .before .before .before .before .before .before .before .before .before .before)) (betas-are (c .before .before .before .before .before .before .before .before .before .before .before)) (drawn2 (c .before .before .before .before .before .before)) (bs-are (c .before .before .before .before .before .before))
-    (c .before .before .run .ensures) (c .if3 .taken)
+    rounds-stop (a .p) (a .vs .now) (a .s .now) (salt start) (commitment start) (hash start) (rounds start) (a .msg .now) (drawn at-if1) (betas-are at-if1) (drawn2 at-if2) (bs-are at-if2)
+    (run .ensures) (c .if3 .taken)
     ∙ pieces-are start
 
 compare-requires : tie.Need-compare-requires
-compare-requires c κs = (c .before .before .before .before .before .before .before .before .before .before .before .before .before .before .before .before .before .before .before .before .before .before .pre .0, all-ready (c .before .before .run .ensures .holds (c .if3 .left)))
+compare-requires c κs =
+    let start = c .before .before .before .before .before .before .before .before .before .before .before .before .before .before .before .before .before .before .before .before .before .before in
+    let run = c .before .before .run in
+    (start .pre .0, all-ready (run .ensures .holds (c .if3 .left)))
 
 returns-4 : tie.Need-returns-4
 returns-4 c =
     let start = c .before .before .before .before .before .before .before .before .before .before .before .before .before .before .before .before .before .before .before .before .before .before .before in
+    let at-if1 = c .before .before .before .before .before .before .before .before .before .before .before .before in
+    let at-if2 = c .before .before .before .before .before .before .before in
+    let run = c .before .before .before .run in
     let a = start .args in
-    compared (a .p) (a .vs .now) (a .s .now) (salt start) (commitment start) (hash start) (rounds start) (a .msg .now) (drawn (c .before .before .before .before .before .before .before .before .before .before .before .before)) (betas-are (c .before .before .before .before .before .before .before .before .before .before .before .before)) (drawn2 (c .before .before .before .before .before .before .before)) (bs-are (c .before .before .before .before .before .before .before))
-    (c .before .before .before .run .ensures) (c .before .if3 .left) (c .compare .ensures)
+    compared (a .p) (a .vs .now) (a .s .now) (salt start) (commitment start) (hash start) (rounds start) (a .msg .now) (drawn at-if1) (betas-are at-if1) (drawn2 at-if2) (bs-are at-if2)
+    (run .ensures) (c .before .if3 .left) (c .compare .ensures)
     ∙ pieces-are start
 
 pub pieces-spec : {M : Type 1} → statement M
