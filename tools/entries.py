@@ -8,6 +8,7 @@ import re
 LIST = "docs/entries.txt"
 HEADER = "include/gridprofile.h"
 EXPORTS = "gridprofile"  # the crate of the C interface
+TESTED = "tiny_sizes"  # exports to the tests alone
 CLAUSES = ("requires", "ensures")
 
 
@@ -88,5 +89,5 @@ def check(root):
         yield f"declared {name}", None if name in listed else f"{LIST} lacks {name}, which {HEADER} declares"
     for folder in sorted(glob.glob(os.path.join(root, "crates", "*"))):
         crate = os.path.basename(folder)
-        if crate != EXPORTS and "#[no_mangle]" in source(root, crate):
+        if crate not in (EXPORTS, TESTED) and "#[no_mangle]" in source(root, crate):
             yield f"exports of {crate}", f"crate {crate} exports to C: only {EXPORTS} does"

@@ -1,0 +1,66 @@
+/* How much stack the entries use: each runs in a thread on a stack that was filled with a pattern, and the bytes that
+ * no longer hold it are counted. A thread that does nothing gives the part that is not the library's. */
+#include <pthread.h>
+#include <stdint.h>
+#include <stdio.h>
+#include <stdlib.h>
+#include <string.h>
+
+#include "gridprofile.h"
+
+#define STACK_BYTES (1 << 20)
+#define PATTERN 0xA5
+
+static uint8_t private_seed[32], master_seed[16], salt[32], message[72];
+static uint8_t key[77], signature[19152];
+
+static void *nothing(void *unused) { return unused; }
+
+static void *make_key(void *unused)
+{
+    gridprofile_make_key(private_seed, sizeof private_seed, key, sizeof key);
+    return unused;
+}
+
+static void *sign(void *unused)
+{
+    gridprofile_sign(private_seed, sizeof private_seed, master_seed, sizeof master_seed, salt, sizeof salt, message,
+                     sizeof message, signature, sizeof signature);
+    return unused;
+}
+
+static void *verify(void *unused)
+{
+    if (gridprofile_verify(key, sizeof key, message, sizeof message, signature, sizeof signature) != 0)
+        exit(1);
+    return unused;
+}
+
+static size_t used(void *(*job)(void *))
+{
+    uint8_t *stack;
+    pthread_attr_t attributes;
+    pthread_t thread;
+    size_t untouched = 0;
+    if (posix_memalign((void **)&stack, 4096, STACK_BYTES) != 0)
+        exit(2);
+    memset(stack, PATTERN, STACK_BYTES);
+    pthread_attr_init(&attributes);
+    pthread_attr_setstack(&attributes, stack, STACK_BYTES);
+    if (pthread_create(&thread, &attributes, job, NULL) != 0)
+        exit(2);
+    pthread_join(thread, NULL);
+    while (untouched < STACK_BYTES && stack[untouched] == PATTERN)
+        untouched++;
+    free(stack);
+    return STACK_BYTES - untouched;
+}
+
+int main(void)
+{
+    size_t base = used(nothing);
+    printf("stack of make_key: %zu bytes\n", used(make_key) - base);
+    printf("stack of sign: %zu bytes\n", used(sign) - base);
+    printf("stack of verify: %zu bytes\n", used(verify) - base);
+    return 0;
+}
