@@ -35,8 +35,11 @@ tested : every holds table ≡ true
 unfolding zipWith same number digits pack unpack spareZero allBelow packChecks unpackChecks fields keep yield sample enough sampleChecks partners exchange exchanges shuffle shuffles shuffleChecks powers scaled response transformation lessTimes dot rowsTimes syndrome replyValues replyExponents replySyndrome decimal lastDigits leadingDigits valueFrom leadingNumber afterNumber fieldsOf obeys valid fieldBytes written lineOf fieldNumber afterField numbersIn scanned sameBytes readLine runs
 tested = refl
 
+-- the theorem
 pub every-case : EveryCase
 every-case c m = same-equal (outcome c) (expected c) (rw (each holds table tested c m) tt)
+
+-- ---- what an entry's contract says of its answer is the outcome
 
 picked : (b : Bool) (made old : List ℕ) → pick b (pick b made old) [] ≡ pick b made []
 picked true made old = refl
