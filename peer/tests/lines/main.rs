@@ -29,6 +29,21 @@ fn valid_lines() {
     c.finish(&[0]);
 }
 
+/// At both ends of every class the line with its letter is read, and with any other letter refused.
+#[test]
+fn classes_at_their_ends() {
+    let ends = [(100, 'A'), (139, 'A'), (140, 'B'), (259, 'B'), (260, 'C'), (519, 'C'), (520, 'D'), (1000, 'D')];
+    for (volts, class) in ends {
+        for letter in 'A'..='D' {
+            let line = format!("GP1,XA,{letter},12,{volts},50,1150,100,800,1500,1500,100,-2500,100\n");
+            let mut image = [0; IMAGE];
+            let wanted = if letter == class { 0 } else { 5 };
+            assert_eq!(archive::read_line(line.as_bytes(), &mut image), wanted, "{volts} {letter}");
+            assert_eq!(image[3], if letter == class { letter as u8 } else { 0 }, "{volts} {letter}");
+        }
+    }
+}
+
 /// Each field in turn holds each end of its range, what stands beside it, and other spellings; then
 /// two fields at once.
 #[test]
