@@ -19,7 +19,7 @@ use Rattle.sampling.specs.Shuffle.{shuffle, shuffleChecks}
 use Rattle.linear.specs.Linear.{powers, scaled, response, transformation, syndrome}
 use Rattle.scheme.specs.Round.{replySyndrome}
 use Rattle.profile.specs.declared.Profile.{Profile}
-use Rattle.profile.specs.Result.{Result, numberIn, valuesIn}
+use Rattle.outcome.specs.Result.{Result, numberIn, valuesIn}
 use Rattle.profile.specs.Rules.{classes, classIn}
 use Rattle.profile.specs.Line.{readLine}
 use Rattle.profile.specs.Bench.{bytes}

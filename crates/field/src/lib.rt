@@ -1,7 +1,7 @@
 // Values modulo 127 and exponents modulo 7, as two types: an exponent is never taken where a value is meant.
 // Every product with a power of 2 goes through times_power, every reduction through reduce.
 ghost use mathlib.Core.Path.{_≡_};
-ghost use Prim.Native.Nat.{_+_, _*_, _%_, _<_, _≤_};
+ghost use Prim.Native.Nat.{_+_, _*_, _%_, _<_};
 ghost use Rattle.field.specs.Field.{power, timesPower, respond as respondOf, less as lessOf, minus as minusOf};
 
 // A value modulo 127, from 0 to 126.

@@ -1,16 +1,16 @@
 -- Each case of the preview's answer, over bytes. Assumes nothing.
 use mathlib.Core.Path.{_≡_, _∙_, refl, sym, ap}
 use mathlib.Core.Bool.{Bool, true, false}
-use mathlib.Core.List.{List, [], _∷_, _++_}
+use mathlib.Core.List.{List, _++_}
 use Prim.Native.Nat.{ℕ}
 use native.Mathlib.Omega.{arith}
 use lib.Dec.{eqb}
 use lib.ListN.{length, drop}
-use Rattle.outcome.specs.Answer.{Answers, bad-size, firstRefusal, pick, _unless_, numberOf}
-use Rattle.profile.specs.Result.{Result, done, refused, answer, numberIn}
+use Rattle.outcome.specs.Answer.{bad-size, pick}
+use Rattle.outcome.specs.Result.{done, refused, answer}
 use Rattle.preview.specs.declared.Previewed.{Previewed}
 use Rattle.preview.specs.declared.Previewed.the-variants.{Length, BadSize}
-use Rattle.preview.specs.Preview.{Previews, previewAnswer, previewChecks, lentSize}
+use Rattle.preview.specs.Preview.{Previews, previewAnswer, lentSize}
 use Rattle.gridprofile.specs.Listing.{PreviewsTo}
 
 module _ {input old lent : List ℕ} {r : Previewed} (previews : Previews input old r lent) where

@@ -2,7 +2,7 @@
 // Up to four parts go in without a sponge being handed on, which would be copied.
 use shake::Sponge;
 ghost use mathlib.Core.Path.{_≡_};
-ghost use mathlib.Core.List.{List, [], _∷_, _++_};
+ghost use mathlib.Core.List.{[], _∷_, _++_};
 ghost use lib.ListN.{length};
 ghost use Rattle.shake.specs.Fold.{Rate, Holds};
 ghost use Rattle.shake.specs.Shake.{shake};

@@ -7,12 +7,12 @@ use native.Mathlib.Omega.{arith}
 use lib.Dec.{eqb}
 use lib.ListN.{length, drop}
 use borrow.Author.Tests.{eq-eqb, ne-eqb}
-use Rattle.outcome.specs.Answer.{bad-size, bad-line, nothing-stored, bad-device, Check, _unless_, firstRefusal, pick, Answers}
+use Rattle.outcome.specs.Answer.{bad-size, bad-line, nothing-stored, bad-device, Check, _unless_, firstRefusal, pick, Answers, AnswersFront}
 use Rattle.outcome.proofs.Checks.{refused as one-refused}
 use Rattle.profile.specs.declared.Profile.{Profile}
 use Rattle.profile.specs.declared.WriteLine.{WriteLine}
 use Rattle.profile.specs.declared.WriteLine.the-variants.{Written, BadSize, BadProfile}
-use Rattle.profile.specs.Result.{Result, done, refused, answer, numberIn}
+use Rattle.outcome.specs.Result.{Result, done, refused, answer, numberIn}
 use Rattle.profile.specs.Rules.{classes}
 use Rattle.profile.specs.Line.{longest, lineOf, readLine, writeChecks, writeLine, writeAnswer, Writes}
 use Rattle.profile.proofs.RuleLaws.{done-passed}
@@ -26,7 +26,6 @@ use Rattle.image.specs.Image.{profileSize, storeSize, profileOf, imageOf
 use Rattle.image.specs.Entries.{
   imageIn,
   ReadsImage,
-  AnswersLine,
   PutsLine,
   writeImageChecks,
   WritesImage,
@@ -168,5 +167,5 @@ module _ (image country old : List ℕ) (class before : ℕ) where
               let same : firstRefusal (writeChecks classes p old) ≡ firstRefusal (lookupImageChecks image country class old) =
               rw (eq-eqb (length country) 2 two, set, eq-eqb (length image) storeSize size, ← found) in
               let line : lineOf p ≡ lineIn (foundIn image (deviceOf country class)) = ap lineIn found in
-              subst (λ (l : List ℕ). AnswersLine (lookupImageChecks image country class old) l old before k new after) line
+              subst (λ (l : List ℕ). AnswersFront (lookupImageChecks image country class old) l old before k new after) line
               (record { answers = answers-as {cs = writeChecks classes p old} {ds = lookupImageChecks image country class old} same (puts .answers); size = puts .size })

@@ -1,15 +1,14 @@
 -- What the functions over images answer: the checks in the order in which they refuse, and the final content of what was lent
 -- (document 01, table "Returned" and the paragraph after it).
 -- Assumes nothing.
-use mathlib.Core.Path.{_≡_}
 use mathlib.Core.Bool.{Bool, false}
-use mathlib.Core.List.{List, [], _∷_, _++_}
+use mathlib.Core.List.{List, [], _∷_}
 use Prim.Native.Nat.{ℕ}
 use lib.Dec.{eqb}
-use lib.ListN.{length, getD, drop}
-use Rattle.outcome.specs.Answer.{bad-size, bad-line, nothing-stored, bad-device, Check, _unless_, pick, Answers}
+use lib.ListN.{length, getD}
+use Rattle.outcome.specs.Answer.{bad-size, bad-line, nothing-stored, bad-device, Check, _unless_, Answers, AnswersFront}
 use Rattle.profile.specs.declared.Profile.{Profile}
-use Rattle.profile.specs.Result.{Result, done, refused}
+use Rattle.outcome.specs.Result.{Result, done, refused, refusalIn}
 use Rattle.profile.specs.Rules.{classes, valid}
 use Rattle.profile.specs.Line.{longest, lineOf, readLine, writeChecks}
 use Rattle.store.specs.declared.Device.{Device}
@@ -18,11 +17,6 @@ use Rattle.store.specs.Stored.{stored, find, isDone}
 use Rattle.image.specs.Image.{profileSize, storeSize, profileOf, imageOf, storeOf}
 
 -- ---- reading a line
-
--- a result that is a refusal refuses
-abbrev pub refusalIn : {A : Type 0} → Result A → List Check
-refusalIn (done a) = []
-refusalIn (refused r) = r unless false ∷ []
 
 -- the image's size; then the line's size and rules, as `readLine` has them
 abbrev pub readImageChecks : List ℕ → List ℕ → List Check
@@ -38,22 +32,16 @@ pub record ReadsImage (line old : List ℕ) (answer : ℕ) (image : List ℕ) : 
 
 -- ---- writing a line
 
--- The answer of an entry that writes a line at the front of what was lent, past it leaves the bytes as they were, and gives the
--- line's length; after a refusal bytes and length are as they were.
-pub record AnswersLine (checks : List Check) (line old : List ℕ) (before answer : ℕ) (lent : List ℕ) (after : ℕ) : Type 0 where
-  pub answers : Answers checks (line ++ drop (length line) old) old answer lent
-  pub size : after ≡ pick (eqb answer 0) (length line) before
-
 -- the line of a profile
 abbrev pub PutsLine : Profile → List ℕ → ℕ → ℕ → List ℕ → ℕ → Type 0
-PutsLine p old = AnswersLine (writeChecks classes p old) (lineOf p) old
+PutsLine p old = AnswersFront (writeChecks classes p old) (lineOf p) old
 
 -- the line of the profile that an image means; its first byte is not looked at
 abbrev pub writeImageChecks : List ℕ → List ℕ → List Check
 writeImageChecks image old = bad-size unless eqb (length image) profileSize ∷ writeChecks classes (profileOf image) old
 
 abbrev pub WritesImage : List ℕ → List ℕ → ℕ → ℕ → List ℕ → ℕ → Type 0
-WritesImage image old = AnswersLine (writeImageChecks image old) (lineOf (profileOf image)) old
+WritesImage image old = AnswersFront (writeImageChecks image old) (lineOf (profileOf image)) old
 
 -- ---- looking up
 
@@ -87,4 +75,4 @@ lookupImageChecks image country class old =
 
 abbrev pub LooksUp : List ℕ → List ℕ → ℕ → List ℕ → ℕ → ℕ → List ℕ → ℕ → Type 0
 LooksUp image country class old =
-    AnswersLine (lookupImageChecks image country class old) (lineIn (foundIn image (deviceOf country class))) old
+    AnswersFront (lookupImageChecks image country class old) (lineIn (foundIn image (deviceOf country class))) old

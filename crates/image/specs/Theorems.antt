@@ -6,7 +6,7 @@ use Prim.Native.Nat.{ℕ}
 use lib.Dec.{T}
 use lib.ListN.{length, replicate}
 use Rattle.profile.specs.declared.Profile.{Profile}
-use Rattle.profile.specs.Result.{done}
+use Rattle.outcome.specs.Result.{done}
 use Rattle.profile.specs.Rules.{classes, valid}
 use Rattle.profile.specs.Line.{lineOf, readLine}
 use Rattle.store.specs.declared.Store.{Store}

@@ -1,8 +1,8 @@
 -- Sums of products by what is left of them, and the syndrome row after row. Assumes nothing.
-use mathlib.Core.Path.{_≡_, refl, _∙_, sym, ap}
+use mathlib.Core.Path.{_≡_, refl, _∙_, ap}
 use mathlib.Core.List.{List, [], _∷_, _++_}
 use Prim.Native.Nat.{ℕ, zero, suc, _+_, _-_, _*_, _%_, _≤_, _<_}
-use native.Mathlib.Nat.{le-of-suc-le-suc, add-mod, mod-add-mod, mul-suc, mul-zero, add-comm, mul-le-mul-left}
+use native.Mathlib.Nat.{le-of-suc-le-suc, mul-suc, mul-zero, add-comm, mul-le-mul-left}
 use native.Mathlib.Numerals.{add-one}
 use native.Mathlib.Omega.{arith}
 use lib.ListN.{length, take, drop, getD, set, drop-of-length-le, length-append, length-drop}

@@ -1,11 +1,10 @@
 -- Laws on lists of checks and on what an entry answers. Assumes nothing.
-use mathlib.Core.Path.{_≡_, refl, _∙_, sym, ap, subst}
+use mathlib.Core.Path.{_≡_, refl, sym}
 use mathlib.Core.Bool.{Bool, true, false}
 use mathlib.Core.List.{List, [], _∷_, _++_}
-use Prim.Native.Nat.{ℕ, suc, zero}
+use Prim.Native.Nat.{ℕ, suc}
 use native.Mathlib.Omega.{arith}
-use lib.Dec.{T, eqb}
-use borrow.Author.Tests.{eq-eqb, ne-eqb}
+use borrow.Author.Tests.{ne-eqb}
 use Rattle.outcome.specs.Answer.{
   Check,
   _unless_,
@@ -13,7 +12,6 @@ use Rattle.outcome.specs.Answer.{
   refusal,
   firstRefusal,
   Passed,
-  pick,
   numberOf,
   Answers,
 }

@@ -1,10 +1,9 @@
 -- A fact about all numbers below a bound, by one test that is computed. Assumes nothing.
-use mathlib.Core.Path.{_≡_, refl, _∙_, sym, subst}
+use mathlib.Core.Path.{_≡_, sym, subst}
 use mathlib.Core.Bool.{Bool, true, false, _&&_}
 use Prim.Native.Nat.{ℕ, zero, suc, _<_}
 use native.Mathlib.Omega.{arith}
-use lib.Dec.{T, eqb, eqb→eq}
-use lib.Arith.{lt-of-le-ne}
+use lib.Dec.{T}
 use native.Mathlib.Decide.{ℕ-discrete}
 
 -- the test passes at each number below n

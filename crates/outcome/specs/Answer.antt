@@ -2,9 +2,10 @@
 -- Assumes nothing.
 use mathlib.Core.Path.{_≡_}
 use mathlib.Core.Bool.{Bool, true, false}
-use mathlib.Core.List.{List, [], _∷_}
+use mathlib.Core.List.{List, [], _∷_, _++_}
 use Prim.Native.Nat.{ℕ, suc}
 use lib.Dec.{T, eqb}
+use lib.ListN.{length, drop}
 
 -- a refusal is numbered from 1, so that no refusal is the answer 0
 pub data Refusal : Type 0 where
@@ -68,3 +69,9 @@ Passed (r unless ok ∷ cs) = T ok × Passed cs
 pub record Answers (checks : List Check) (made old : List ℕ) (number : ℕ) (lent : List ℕ) : Type 0 where
   pub answer : number ≡ firstRefusal checks
   pub content : lent ≡ pick (eqb number 0) made old
+
+-- The answer of an entry that writes these bytes at the front of what was lent, past them leaves it as it was, and gives their
+-- length; after a refusal bytes and length are as they were.
+pub record AnswersFront (checks : List Check) (made old : List ℕ) (before number : ℕ) (lent : List ℕ) (after : ℕ) : Type 0 where
+  pub answers : Answers checks (made ++ drop (length made) old) old number lent
+  pub size : after ≡ pick (eqb number 0) (length made) before

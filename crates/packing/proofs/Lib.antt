@@ -6,4 +6,3 @@ pub mod Bits
 pub mod Groups
 pub mod Seen
 pub mod Refusals
-pub mod Cases

@@ -2,7 +2,7 @@
 -- arrays; every category is well below them.
 -- Assumes nothing.
 use mathlib.Core.Path.{_≡_}
-use Prim.Native.Nat.{ℕ, _≤_, _<_, _%_}
+use Prim.Native.Nat.{_≤_, _<_, _%_}
 use Rattle.parameters.specs.declared.Params.{Params}
 
 pub record Sound (p : Params) : Type 0 where

@@ -11,7 +11,7 @@ use Rattle.outcome.specs.Answer.{pick, bad-size}
 use Rattle.decimal.specs.Decimal.{Room, Appended}
 use Rattle.decimal.proofs.Stores.{front-length, front}
 use Rattle.profile.specs.declared.Profile.{Profile}
-use Rattle.profile.specs.Result.{done, refused}
+use Rattle.outcome.specs.Result.{done, refused}
 use Rattle.store.specs.Stored.{insert}
 use Rattle.store.specs.Reached.{Call, answerTo, Step, Run, Reached, model}
 use Rattle.store.proofs.StoredLaws.{find-insert, perm-eq}

@@ -8,7 +8,7 @@ use lib.ListN.{length, take, drop}
 use Rattle.outcome.specs.Answer.{bad-size, Check, _unless_, pick}
 use Rattle.decimal.specs.Decimal.{decimal}
 use Rattle.profile.specs.declared.Profile.{Profile}
-use Rattle.profile.specs.Result.{Result, done, refused, answer, numberIn}
+use Rattle.outcome.specs.Result.{Result, done, refused, answer, numberIn}
 use Rattle.profile.specs.Rules.{classes}
 use Rattle.profile.specs.Line.{comma, lineFeed, readLine}
 use Rattle.store.specs.declared.Device.{Device}

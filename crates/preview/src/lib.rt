@@ -13,7 +13,7 @@ ghost use mathlib.Core.List.{[], _∷_};
 ghost use Prim.Native.Nat.{_+_, _*_, _≤_};
 ghost use lib.ListN.{length};
 ghost use Rattle.decimal.specs.Decimal.{Room, Appended};
-ghost use Rattle.profile.specs.Result.{done};
+ghost use Rattle.outcome.specs.Result.{done};
 ghost use Rattle.profile.specs.Rules.{classes};
 ghost use Rattle.profile.specs.Line.{readLine};
 ghost use Rattle.store.specs.Stored.{capacity, profilesIn, stored};

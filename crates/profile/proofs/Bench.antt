@@ -3,10 +3,7 @@ use mathlib.Core.Path.{refl}
 use Rattle.decimal.specs.Decimal.{decimal, lastDigits, leadingDigits, valueFrom, leadingNumber, afterNumber}
 use Rattle.profile.specs.Rules.{fieldsOf, obeys, valid}
 use Rattle.profile.specs.Line.{fieldBytes, written, lineOf, fieldNumber, afterField, numbersIn, scanned, sameBytes, readLine}
-use Rattle.profile.specs.Bench.{ClassBench, LineBench}
-
-pub class-bench : ClassBench
-class-bench = (refl, refl)
+use Rattle.profile.specs.Bench.{LineBench}
 
 pub line-bench : LineBench
 unfolding decimal lastDigits leadingDigits valueFrom leadingNumber afterNumber fieldsOf obeys valid fieldBytes written lineOf fieldNumber afterField numbersIn scanned sameBytes readLine

@@ -11,7 +11,7 @@ use Rattle.decimal.specs.Decimal.{Room, Appended}
 use Rattle.decimal.proofs.Stores.{front-length, front}
 use Rattle.profile.specs.declared.Profile.{Profile}
 use Rattle.profile.specs.declared.WriteLine.the-variants.{Written, BadSize, BadProfile}
-use Rattle.profile.specs.Result.{done, refused}
+use Rattle.outcome.specs.Result.{done, refused}
 use Rattle.profile.specs.Rules.{_to_, contains, Class, valid}
 use Rattle.profile.specs.Line.{tag, shortest, longest, lineOf, scanned, sameBytes, readLine, writeLine, Writes}
 use Rattle.profile.proofs.RuleLaws.{test, parts}

@@ -13,7 +13,7 @@ use Rattle.outcome.specs.Answer.{Check, _unless_, Passed}
 use Rattle.decimal.specs.Decimal.{decimal, largest}
 use Rattle.decimal.proofs.Decimal.{length-mono}
 use Rattle.profile.specs.declared.Profile.{Profile}
-use Rattle.profile.specs.Result.{done, answer}
+use Rattle.outcome.specs.Result.{done, answer}
 use Rattle.profile.specs.Rules.{Range, _to_, contains, inOneOf, share, above, below, number, Field, tripFields, fieldsOf, tripRules, Rule, rules, fits, obeys, Class, classIn, isClass, letters, valid}
 
 abbrev pub lowest : Range → ℕ

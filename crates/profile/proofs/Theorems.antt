@@ -10,7 +10,7 @@ use Rattle.decimal.specs.Decimal.{decimal, lastDigits}
 use Rattle.profile.specs.declared.Limit.the-variants.{Share, Offset}
 use Rattle.profile.specs.declared.Trip.{Trip}
 use Rattle.profile.specs.declared.Profile.{Profile}
-use Rattle.profile.specs.Result.{done}
+use Rattle.outcome.specs.Result.{done}
 use Rattle.profile.specs.Rules.{_to_, contains, valid, obeys, fieldsOf}
 use Rattle.profile.specs.Line.{tag, shortest, longest, fieldBytes, written, lineOf, scanned, sameBytes, readChecks, readLine}
 use Rattle.profile.specs.Theorems.{ReadsWritten, WritesRead, OneLine, LineLengths, Reached}

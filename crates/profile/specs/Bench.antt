@@ -1,32 +1,13 @@
--- Document 01's bench cases of the class, and lines with what reading them answers. Assumes nothing.
+-- Lines, and what reading them answers. The cases that document 01 marks as proved stand in crate `cases`.
+-- Assumes nothing.
 use mathlib.Core.Path.{_≡_}
 use mathlib.Core.List.{List, [], _∷_, map}
 use Prim.Native.Nat.{ℕ, zero, suc}
 use Prim.Native.Char.{code}
 use Prim.Native.String.{String, len, charAt}
-use Rattle.profile.specs.Result.{numberIn, valuesIn}
-use Rattle.profile.specs.Rules.{classes, classIn}
+use Rattle.outcome.specs.Result.{numberIn}
+use Rattle.profile.specs.Rules.{classes}
 use Rattle.profile.specs.Line.{readLine}
-
--- volts, the number of the table "Returned", and the class letter
-pub record ClassCase : Type 0 where
-  pub volts : ℕ
-  pub number : ℕ
-  pub letters : List ℕ
-
-abbrev pub gives : ℕ → ℕ → List ℕ → ClassCase
-gives volts number letters = record { volts = volts; number = number; letters = letters }
-
--- 139 A, 140 B, 259 B, 260 C; 99 and 1001 volts: 5
-abbrev pub classCases : List ClassCase
-classCases =
-    gives 139 0 (65 ∷ []) ∷ gives 140 0 (66 ∷ []) ∷ gives 259 0 (66 ∷ []) ∷ gives 260 0 (67 ∷ [])
-    ∷ gives 99 5 [] ∷ gives 1001 5 [] ∷ []
-
-abbrev pub ClassBench : Type 0
-ClassBench =
-    (map (λ (c : ClassCase). numberIn (classIn classes (c .volts))) classCases ≡ map (λ (c : ClassCase). c .number) classCases)
-    × (map (λ (c : ClassCase). valuesIn (classIn classes (c .volts))) classCases ≡ map (λ (c : ClassCase). c .letters) classCases)
 
 -- the bytes of a text without accents, n of them from place i
 abbrev pub bytesFrom : String → ℕ → ℕ → List ℕ

@@ -1,4 +1,3 @@
-pub mod Result
 pub mod Rules
 pub mod Line
 pub mod Places

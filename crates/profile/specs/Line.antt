@@ -18,7 +18,7 @@ use Rattle.profile.specs.declared.ReadLine.{ReadLine}
 use Rattle.profile.specs.declared.ReadLine.the-variants as reading
 use Rattle.profile.specs.declared.WriteLine.{WriteLine}
 use Rattle.profile.specs.declared.WriteLine.the-variants as writing
-use Rattle.profile.specs.Result.{Result, done, refused, answer, numberIn}
+use Rattle.outcome.specs.Result.{Result, done, refused, answer, numberIn}
 use Rattle.profile.specs.Rules.{_to_, contains, share, above, below, Field, fieldsOf, Rule, rules, Class, valid}
 
 -- ---- the line of a profile

@@ -11,7 +11,7 @@ use Rattle.profile.specs.declared.Trip.{Trip}
 use Rattle.profile.specs.declared.Profile.{Profile}
 use Rattle.profile.specs.declared.ClassFound.{ClassFound}
 use Rattle.profile.specs.declared.ClassFound.the-variants.{Letter, OutOfRange}
-use Rattle.profile.specs.Result.{Result, done, refused}
+use Rattle.outcome.specs.Result.{Result, done, refused}
 
 -- ---- numbers and ranges, both ends included
 

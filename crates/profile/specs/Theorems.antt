@@ -6,7 +6,7 @@ use Prim.Native.Nat.{ℕ, _≤_}
 use lib.Dec.{T}
 use lib.ListN.{length}
 use Rattle.profile.specs.declared.Profile.{Profile}
-use Rattle.profile.specs.Result.{done}
+use Rattle.outcome.specs.Result.{done}
 use Rattle.profile.specs.Rules.{Class, classes, valid}
 use Rattle.profile.specs.Line.{shortest, longest, lineOf, readLine}
 

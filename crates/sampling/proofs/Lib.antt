@@ -5,4 +5,3 @@ pub mod Copied
 pub mod Shuffling
 pub mod Steps
 pub mod Answered
-pub mod Cases

@@ -1,7 +1,7 @@
 -- "Draws": a block is read as fields of a width, in the bit order of packing; the acceptable ones are kept until
 -- there are enough. Document 01 calls sampling a draw.
 -- Assumes nothing.
-use mathlib.Core.Bool.{Bool, true, false}
+use mathlib.Core.Bool.{Bool}
 use mathlib.Core.List.{List, [], _∷_}
 use Prim.Native.Nat.{ℕ, _+_, _*_, _/_}
 use lib.Dec.{ltb, leb, eqb}

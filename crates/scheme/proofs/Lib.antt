@@ -9,5 +9,4 @@ pub mod Accepted
 pub mod OpensStrings
 pub mod OpensAnswers
 pub mod Opens
-pub mod OnePlace
 pub mod Sizes

@@ -1,17 +1,16 @@
 -- One round: what its seed draws, and what its reply tells the verifier and the round examiner.
 -- The reply to the second challenge 1 is the round's seed; the reply to 0 is y and σ, packed.
 -- Assumes nothing.
-use mathlib.Core.Bool.{Bool, true, false}
-use mathlib.Core.List.{List, [], _∷_, _++_}
+use mathlib.Core.List.{List, [], _∷_}
 use Prim.Native.Nat.{ℕ, _+_, _-_}
 use lib.Dec.{eqb}
-use lib.ListN.{length, take, drop}
+use lib.ListN.{take, drop}
 use Rattle.outcome.specs.Answer.{Check, _unless_, short, bad-field, pick}
 use Rattle.packing.specs.Packing.{unpack, size, allBelow, spareZero}
 use Rattle.parameters.specs.declared.Params.{Params}
 use Rattle.sampling.specs.Sampling.{sample, enough, yield}
 use Rattle.linear.specs.Linear.{syndrome, scaled, response, lessTimes}
-use Rattle.scheme.specs.Strings.{bytesFrom, digest, string0, string1, string2, string10-round, string11}
+use Rattle.scheme.specs.Strings.{bytesFrom, string0, string1, string10-round, string11}
 use Rattle.scheme.specs.Key.{exponentsFrom, exponentsDrawn}
 
 module _ (p : Params) where

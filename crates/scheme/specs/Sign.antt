@@ -8,7 +8,7 @@ use lib.Dec.{eqb, leb}
 use lib.ListN.{length, take, drop, getD}
 use Rattle.outcome.specs.Answer.{Check, _unless_, bad-size, short, pick}
 use Rattle.outcome.specs.Lists.{flat}
-use Rattle.packing.specs.Packing.{pack, size}
+use Rattle.packing.specs.Packing.{pack}
 use Rattle.parameters.specs.declared.Params.{Params}
 use Rattle.sampling.specs.Sampling.{sample, enough, yield}
 use Rattle.sampling.specs.Shuffle.{shuffle, shuffles}
@@ -26,7 +26,7 @@ use Rattle.scheme.specs.Strings.{
   string9,
 }
 use Rattle.scheme.specs.Key.{publicSeed, matrix, keyExponents, keyDraws}
-use Rattle.scheme.specs.Round.{maskExponents, maskValues, roundDraws, valuesSize, replySize}
+use Rattle.scheme.specs.Round.{maskExponents, maskValues, roundDraws, replySize}
 
 -- the longest message
 abbrev pub messageMax : ℕ

@@ -1,10 +1,9 @@
 -- Every hashed string, named once. Each begins with its tag byte; vectors enter packed; ‖ is _++_.
 -- Assumes nothing.
-use mathlib.Core.List.{List, [], _∷_, _++_}
-use Prim.Native.Nat.{ℕ, suc, _*_}
+use mathlib.Core.List.{List, _∷_, _++_}
+use Prim.Native.Nat.{ℕ}
 use Rattle.packing.specs.Packing.{pack, digits}
 use Rattle.parameters.specs.declared.Params.{Params}
-use Rattle.outcome.specs.Lists.{flat}
 use Rattle.shake.specs.Shake.{shake}
 
 -- the bytes that a string gives, and its digest

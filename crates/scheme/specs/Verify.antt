@@ -1,6 +1,5 @@
 -- "The checker": verifying a signature, as Figure 5 of CROSS 1.1 recomputes it.
 -- Assumes nothing.
-use mathlib.Core.Bool.{Bool}
 use mathlib.Core.List.{List, [], _∷_, _++_}
 use Prim.Native.Nat.{ℕ, _+_, _-_, _*_}
 use lib.Dec.{eqb, leb}

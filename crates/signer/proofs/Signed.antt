@@ -26,7 +26,7 @@ use Rattle.scheme.specs.Round.{roundDraws}
 use Rattle.scheme.specs.Sign.{partSize, firstBlock, firstChallenges, firstDrawn, secondBlock, secondChallenges, secondDrawn, roundSeeds, roundSeed, signDraws, signatureFrom}
 use Rattle.scheme.specs.Sign as sign
 use Rattle.scheme.proofs.PartsStrings.{length-digest, below-mask, length-mask, length-values}
-use Rattle.signer.specs.Vector.{Vector}
+use Rattle.packing.specs.Vector.{Vector}
 use Rattle.signer.specs.State.{stateSize, seedAt, stateAt, valuesOf, exponentsOf, c0Of, c1Of, roundState, responseOf, responseDigest, responsesDigest, partOf, partAt, States, Replied}
 use Rattle.signer.proofs.Rounds.{below-values}
 

@@ -1,3 +1,2 @@
-pub mod Vector
 pub mod State
 pub mod Sizes

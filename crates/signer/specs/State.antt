@@ -15,7 +15,7 @@ use Rattle.parameters.specs.declared.Params.{Params}
 use Rattle.linear.specs.Linear.{response, transformation, scaled, syndrome}
 use Rattle.scheme.specs.Strings.{digest, string0, string1, string2, string6}
 use Rattle.scheme.specs.Sign.{u′, e′, c0, c1, secondChallenges, secondDrawn}
-use Rattle.signer.specs.Vector.{Vector}
+use Rattle.packing.specs.Vector.{Vector}
 
 -- Checks that all refuse as short, with what they leave in a lent buffer where they pass.
 pub record Drawn (checks : List Check) (made : List ℕ) (ok : Bool) (lent : List ℕ) : Type 0 where

@@ -14,7 +14,7 @@ ghost use Rattle.packing.specs.Packing.{allBelow, pack, digits};
 ghost use Rattle.scheme.specs.Strings.{digest, commitment};
 ghost use Rattle.scheme.specs.Key.{matrixCount};
 ghost use Rattle.scheme.specs.Round.{roundDraws};
-ghost use Rattle.signer.specs.Vector.{Vector};
+ghost use Rattle.packing.specs.Vector.{Vector};
 ghost use Rattle.signer.specs.State.{stateSize, stateAt, seedAt, syndromeString, stateFrom, roundState, c0Of, c1Of, Drawn};
 
 // A commitment of round i: values and exponents are packed where the string needs them.

@@ -10,7 +10,7 @@ ghost use Rattle.shake.specs.Fold.{Ready, Absorbs};
 ghost use Rattle.packing.specs.Packing.{pack};
 ghost use Rattle.scheme.specs.Strings.{digest, string2};
 ghost use Rattle.scheme.specs.Round.{valuesSize};
-ghost use Rattle.signer.specs.Vector.{Vector};
+ghost use Rattle.packing.specs.Vector.{Vector};
 ghost use Rattle.signer.specs.State.{State, States, responseOf, responsesDigest};
 
 // y of a round, packed.

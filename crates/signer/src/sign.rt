@@ -11,7 +11,7 @@ ghost use Rattle.outcome.specs.Answer.{Answers};
 ghost use Rattle.parameters.specs.Sound.{Sound};
 ghost use Rattle.scheme.specs.Key.{matrixCount};
 ghost use Rattle.scheme.specs.Sign.{signatureSize, signChecks, signature, signatureFrom, signDraws, roundSeed};
-ghost use Rattle.signer.specs.Vector.{Vector};
+ghost use Rattle.packing.specs.Vector.{Vector};
 ghost use Rattle.signer.specs.State.{stateSize, States, Replied, responsesDigest};
 
 // From c and the first challenges on: h, the second challenges, and the signature.

@@ -11,7 +11,7 @@ ghost use Rattle.parameters.specs.Sound.{Sound};
 ghost use Rattle.packing.specs.Packing.{pack};
 ghost use Rattle.linear.specs.Linear.{transformation};
 ghost use Rattle.scheme.specs.Sign.{partSize};
-ghost use Rattle.signer.specs.Vector.{Vector};
+ghost use Rattle.packing.specs.Vector.{Vector};
 ghost use Rattle.signer.specs.State.{State, States, exponentsOf, c0Of, c1Of, responseOf, partOf, partAt};
 
 // Bytes of a round's part under its second challenge.

@@ -9,7 +9,7 @@ use lib.ListN.{length, getD, set}
 use borrow.Author.Tests.{lt-ltb, le-ltb}
 use Rattle.outcome.specs.Answer.{full, nothing-stored, bad-device, _unless_, firstRefusal, pick}
 use Rattle.profile.specs.declared.Profile.{Profile}
-use Rattle.profile.specs.Result.{Result, done, refused, numberIn}
+use Rattle.outcome.specs.Result.{Result, done, refused, numberIn}
 use Rattle.profile.specs.Rules.{Class}
 use Rattle.store.specs.declared.Device.{Device}
 use Rattle.store.specs.declared.Store.{Store}

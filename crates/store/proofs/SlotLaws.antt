@@ -11,7 +11,7 @@ use Rattle.outcome.specs.Answer.{nothing-stored, pick}
 use Rattle.profile.specs.declared.Limit.the-variants.{Share}
 use Rattle.profile.specs.declared.Trip.{Trip}
 use Rattle.profile.specs.declared.Profile.{Profile}
-use Rattle.profile.specs.Result.{done, refused}
+use Rattle.outcome.specs.Result.{done, refused}
 use Rattle.store.specs.declared.Key.{Key}
 use Rattle.store.specs.declared.Slot.{Slot}
 use Rattle.store.specs.Keys.{keyOf, sameKey}

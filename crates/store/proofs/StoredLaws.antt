@@ -7,7 +7,7 @@ use native.Mathlib.Omega.{arith}
 use lib.ListN.{length}
 use Rattle.outcome.specs.Answer.{nothing-stored, pick}
 use Rattle.profile.specs.declared.Profile.{Profile}
-use Rattle.profile.specs.Result.{Result, done, refused}
+use Rattle.outcome.specs.Result.{Result, done, refused}
 use Rattle.store.specs.declared.Key.{Key}
 use Rattle.store.specs.Keys.{keyOf, sameKey}
 use Rattle.store.specs.Stored.{find, isDone, isStored, insert, Distinct}

@@ -8,7 +8,7 @@ use lib.Dec.{ltb}
 use lib.ListN.{length}
 use Rattle.outcome.specs.Answer.{other-device, old-serial, full, nothing-stored, bad-device, Check, _unless_, firstRefusal, pick}
 use Rattle.profile.specs.declared.Profile.{Profile}
-use Rattle.profile.specs.Result.{Result, done, refused}
+use Rattle.outcome.specs.Result.{Result, done, refused}
 use Rattle.profile.specs.Rules.{Class}
 use Rattle.store.specs.declared.Key.{Key}
 use Rattle.store.specs.declared.Device.{Device}

@@ -8,7 +8,7 @@ use lib.Dec.{eqb}
 use lib.ListN.{length}
 use Rattle.outcome.specs.Answer.{pick}
 use Rattle.profile.specs.declared.Profile.{Profile}
-use Rattle.profile.specs.Result.{done}
+use Rattle.outcome.specs.Result.{done}
 use Rattle.profile.specs.Rules.{Class}
 use Rattle.store.specs.declared.Key.{Key}
 use Rattle.store.specs.declared.Device.{Device}

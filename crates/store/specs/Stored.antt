@@ -6,7 +6,7 @@ use mathlib.Core.List.{List, [], _∷_}
 use Prim.Native.Nat.{ℕ, suc}
 use Rattle.outcome.specs.Answer.{nothing-stored, pick}
 use Rattle.profile.specs.declared.Profile.{Profile}
-use Rattle.profile.specs.Result.{Result, done, refused}
+use Rattle.outcome.specs.Result.{Result, done, refused}
 use Rattle.store.specs.declared.Key.{Key}
 use Rattle.store.specs.declared.Slot.{Slot}
 use Rattle.store.specs.declared.Store.{Store}

@@ -18,7 +18,7 @@ use Rattle.sampling.proofs.Shuffling.{length-shuffle, weight-shuffle}
 use Rattle.scheme.specs.Sign.{firstBlock, firstChallenges, firstDrawn, secondBlock, secondChallenges, secondDrawn, partSize}
 use Rattle.scheme.specs.Verify as verify
 use Rattle.verifier.specs.declared.rounds.Rounds.{Rounds}
-use Rattle.verifier.specs.Vector.{Vector}
+use Rattle.packing.specs.Vector.{Vector}
 use Rattle.verifier.specs.Rounds.{replyIn, checksIn, broughtIn, givenIn, c0In, c1In, hIn, differences, Compared, offset, partAt, checksAt, c0At, c1At, hAt, Ran}
 use Rattle.verifier.proofs.Answering.{stops, goes-on}
 use Rattle.verifier.proofs.Vectors.{made}

@@ -14,7 +14,7 @@ use Rattle.scheme.specs.Strings.{digest, string1, string2, string10-round}
 use Rattle.scheme.specs.Key.{exponentsDrawn}
 use Rattle.scheme.specs.Round.{maskExponents, maskValues, maskBlock, roundDraws, replyChecks, replyString, replyResponse}
 use Rattle.scheme.proofs.PartsStrings.{below-mask, length-mask, length-values}
-use Rattle.verifier.specs.Vector.{Vector}
+use Rattle.packing.specs.Vector.{Vector}
 use Rattle.verifier.specs.Recomputed.{Recomputed}
 use Rattle.verifier.proofs.Vectors.{made}
 

@@ -8,7 +8,7 @@ use Rattle.packing.specs.Packing.{allBelow}
 use Rattle.packing.proofs.Below.{Below, below-test}
 use Rattle.linear.specs.Linear.{scaled, syndrome, lessTimes}
 use Rattle.linear.proofs.Sizes.{length-scaled, length-syndrome, length-lessTimes}
-use Rattle.verifier.specs.Vector.{Vector}
+use Rattle.packing.specs.Vector.{Vector}
 
 pub ranged : {m : ℕ} {xs : List ℕ} → Below m xs → T (allBelow m xs)
 ranged b = subst T (sym (below-test b)) tt

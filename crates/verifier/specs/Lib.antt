@@ -1,4 +1,3 @@
-pub mod Vector
 pub mod Recomputed
 pub mod Rounds
 pub mod Steps

@@ -12,7 +12,7 @@ ghost use Rattle.parameters.specs.Sound.{Sound};
 ghost use Rattle.scheme.specs.Key.{matrixCount};
 ghost use Rattle.scheme.specs.Round.{replySize};
 ghost use Rattle.scheme.specs.Examine.{examine as examineOf, replySized};
-ghost use Rattle.verifier.specs.Vector.{Vector};
+ghost use Rattle.packing.specs.Vector.{Vector};
 ghost use Rattle.verifier.specs.Steps.{sizeChecks, numberChecks, roundChecks};
 
 // Whether the reply has its size, which only the challenges 0 and 1 give.

@@ -11,7 +11,7 @@ ghost use Rattle.linear.specs.Linear.{scaled, lessTimes, response, syndrome as 
 ghost use Rattle.scheme.specs.Strings.{digest, string1, string2, roundNumber};
 ghost use Rattle.scheme.specs.Key.{matrixCount};
 ghost use Rattle.scheme.specs.Round.{valuesSize, replySize};
-ghost use Rattle.verifier.specs.Vector.{Vector};
+ghost use Rattle.packing.specs.Vector.{Vector};
 ghost use Rattle.verifier.specs.Recomputed.{Recomputed};
 
 // c1(i): mask values and mask exponents, packed.

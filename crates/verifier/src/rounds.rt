@@ -12,7 +12,7 @@ ghost use Rattle.shake.specs.Fold.{Absorbs};
 ghost use Rattle.scheme.specs.Key.{matrixCount};
 ghost use Rattle.scheme.specs.Round.{replySize};
 ghost use Rattle.scheme.specs.Sign.{partSize};
-ghost use Rattle.verifier.specs.Vector.{Vector};
+ghost use Rattle.packing.specs.Vector.{Vector};
 ghost use Rattle.verifier.specs.Rounds.{Stepped, AllReady, HoldAll, Compared, Ran, offset};
 
 // What goes in: all c0(i), all c1(i), all h(i).

@@ -10,7 +10,7 @@ ghost use Rattle.parameters.specs.Sound.{Sound};
 ghost use Rattle.scheme.specs.Key.{matrixCount};
 ghost use Rattle.scheme.specs.Sign.{signatureSize};
 ghost use Rattle.scheme.specs.Verify.{verify as verifyOf, pieceChecks, saltOf, cOf, hOf, roundsOf};
-ghost use Rattle.verifier.specs.Vector.{Vector};
+ghost use Rattle.packing.specs.Vector.{Vector};
 ghost use Rattle.verifier.specs.Steps.{lengthChecks};
 
 fn sizes(p: Params, key: usize, msg: usize, sig: usize) -> u8

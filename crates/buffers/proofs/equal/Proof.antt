@@ -5,7 +5,6 @@ use native.Mathlib.Omega.{arith}
 use lib.ListN.{length, drop}
 use Rattle.outcome.specs.Lists.{same}
 use Rattle.buffers.proofs.Compared.{same-longer, same-next, same-differ, same-end}
-use borrow.Author.Needs.{needs}
 use Rattle.buffers.proofs.equal.Statement.{statement}
 use Rattle.buffers.proofs.equal.Tie as tie
 

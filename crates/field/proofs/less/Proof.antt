@@ -1,7 +1,7 @@
 -- `less`: the product of two values below 128 fits. Assumes nothing.
 use native.Mathlib.Omega.{arith}
 use Rattle.outcome.proofs.Numbers.{product-le}
-use Prim.Native.Nat.{ℕ, _*_, _-_, _≤_}
+use Prim.Native.Nat.{_*_, _-_, _≤_}
 use borrow.Author.Needs.{needs}
 use Rattle.field.proofs.less.Statement.{statement}
 use Rattle.field.proofs.less.Tie as tie

@@ -1,8 +1,5 @@
 -- `times_power`: the folded shift is the product. Assumes nothing.
 use native.Mathlib.Omega.{arith}
-use native.Mathlib.Nat.{mod-lt}
-use lib.Dec.{lit<}
-use Prim.Native.Nat.{ℕ, _%_, _<_}
 use borrow.Author.Needs.{needs}
 use Rattle.field.proofs.Rotate.{rotate}
 use Rattle.field.proofs.times_power.Statement.{statement}

@@ -1,8 +1,8 @@
 -- `powers`: after i places the buffer holds the first i places of the result. Assumes nothing.
-use mathlib.Core.Path.{_≡_, _∙_, ap, sym, refl}
+use mathlib.Core.Path.{_≡_, _∙_, refl}
 use Prim.Native.Nat.{ℕ, _≤_, _-_}
 use native.Mathlib.Omega.{arith}
-use lib.ListN.{length, set}
+use lib.ListN.{length}
 use Rattle.packing.proofs.Below.{below, below-at}
 use Rattle.field.specs.Field.{power}
 use Rattle.linear.specs.Linear.{powers}

@@ -1,5 +1,5 @@
 -- `row_sum`: the sum so far and the sum of what is left make the whole. Assumes nothing.
-use mathlib.Core.Path.{_≡_, _∙_, ap, sym, refl}
+use mathlib.Core.Path.{_≡_, ap}
 use Prim.Native.Nat.{ℕ, _≤_, _-_, _+_, _*_, _%_, _<_}
 use native.Mathlib.Omega.{arith}
 use mathlib.Core.List.{List}

@@ -1,15 +1,14 @@
 -- `syndrome`: after i rows the buffer holds the first i places of the result. Assumes nothing.
-use mathlib.Core.Path.{_≡_, _∙_, ap, sym, refl}
-use Prim.Native.Nat.{ℕ, _≤_, _-_, _+_, _*_, _%_, _<_}
+use mathlib.Core.Path.{_≡_, _∙_, sym, refl}
+use Prim.Native.Nat.{_≤_, _-_, _+_, _*_}
 use native.Mathlib.Omega.{arith}
-use lib.ListN.{length, drop, take, getD, length-take, length-set, set}
+use lib.ListN.{length, length-take, length-set}
 use lib.Seq.{length-take-le}
 use native.Mathlib.Nat.{mul-suc}
 use native.Mathlib.Numerals.{add-one}
-use lib.Dec.{T}
-use Rattle.packing.proofs.Below.{below, below-at, below-take, below-drop}
+use Rattle.packing.proofs.Below.{below, below-take, below-drop}
 use Rattle.linear.proofs.Kept.{kept-below}
-use Rattle.linear.specs.Linear.{dot, syndrome}
+use Rattle.linear.specs.Linear.{syndrome}
 use Rattle.linear.proofs.Rows.{rows, rows-none, rows-store, rows-end, row-within, row-part}
 use Rattle.linear.proofs.syndrome.Statement.{statement}
 use Rattle.linear.proofs.syndrome.Tie as tie

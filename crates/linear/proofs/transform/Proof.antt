@@ -1,13 +1,12 @@
 -- `transform`: after i places the buffer holds the first i places of the result. Assumes nothing.
-use mathlib.Core.Path.{_≡_, _∙_, ap, sym}
+use mathlib.Core.Path.{_≡_, _∙_}
 use Prim.Native.Nat.{_≤_, _-_}
 use native.Mathlib.Omega.{arith}
-use lib.ListN.{length, set}
-use borrow.Author.Needs.{needs}
+use lib.ListN.{length}
 use Rattle.packing.proofs.Below.{below, below-at}
 use Rattle.field.specs.Field.{minus}
 use Rattle.linear.specs.Linear.{transformation}
-use Rattle.linear.proofs.Loops.{zipped, zipped-none, zipped-more, zipped-end, length-held, zipped-store}
+use Rattle.linear.proofs.Loops.{zipped, zipped-none, zipped-end, length-held, zipped-store}
 use Rattle.linear.proofs.transform.Statement.{statement}
 use Rattle.linear.proofs.transform.Tie as tie
 

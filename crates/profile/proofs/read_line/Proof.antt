@@ -7,7 +7,7 @@ use lib.ListN.{length, take, replicate}
 use lib.Seq.{length-take-le}
 use Rattle.decimal.specs.Decimal.{Room}
 use Rattle.profile.specs.declared.Profile.{Profile}
-use Rattle.profile.specs.Result.{done}
+use Rattle.outcome.specs.Result.{done}
 use Rattle.profile.specs.Rules.{_to_, contains, classes, valid}
 use Rattle.profile.specs.Line.{tag, shortest, longest, lineOf, scanned, sameBytes}
 use Rattle.decimal.proofs.Stores.{appended-length, front-length, front-taken}

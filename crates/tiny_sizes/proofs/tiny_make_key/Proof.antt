@@ -1,5 +1,5 @@
 -- `tiny_make_key`: the sizes are the tiny ones, which are sound. Assumes nothing.
-use mathlib.Core.Path.{_≡_, refl}
+use mathlib.Core.Path.{refl}
 use borrow.Author.Needs.{needs}
 use Rattle.tiny_sizes.proofs.Sound.{sound-tiny}
 use Rattle.tiny_sizes.proofs.tiny_make_key.Statement.{statement}

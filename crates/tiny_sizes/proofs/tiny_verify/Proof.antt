@@ -1,5 +1,5 @@
 -- `tiny_verify`: the sizes are the tiny ones, which are sound. Assumes nothing.
-use mathlib.Core.Path.{_≡_, refl}
+use mathlib.Core.Path.{refl}
 use Rattle.tiny_sizes.proofs.Sound.{sound-tiny}
 use borrow.Author.Needs.{needs}
 use Rattle.tiny_sizes.proofs.tiny_verify.Statement.{statement}

@@ -1,7 +1,7 @@
 -- `profile::rules::class_agrees` meets its contract: the class of the volts is the letter found, or there is none. Assumes nothing.
 use mathlib.Core.Path.{_∙_, sym, ap}
 use Prim.Native.Nat.{ℕ}
-use Rattle.profile.specs.Result.{Result}
+use Rattle.outcome.specs.Result.{Result}
 use Rattle.profile.specs.Rules.{classAnswer, isClass}
 use borrow.Author.Needs.{needs}
 use Rattle.profile.proofs.rules.class_agrees.Statement.{statement}

@@ -14,7 +14,7 @@ use Rattle.scheme.specs.Key.{keySize, seedOf, syndromeOf, matrix, matrixDrawn, 
 use Rattle.scheme.specs.Round.{replySize}
 use Rattle.scheme.specs.Examine.{examine}
 use Rattle.expand.proofs.Lent.{Lent, part-length, lent-within, lent-length, lent-part}
-use Rattle.verifier.specs.Vector.{Vector}
+use Rattle.packing.specs.Vector.{Vector}
 use Rattle.verifier.specs.Steps.{roundChecks}
 use Rattle.verifier.proofs.Keys.{syndrome-read, matrix-vector, count-fits}
 use Rattle.verifier.proofs.Vectors.{same-vector}

@@ -1,6 +1,6 @@
 -- `run`: after j rounds that passed, the sponges hold their digests. Assumes nothing.
 use mathlib.Core.Path.{_≡_}
-use Prim.Native.Nat.{_+_, _-_, _≤_}
+use Prim.Native.Nat.{_+_, _-_, _<_, _≤_}
 use native.Mathlib.Omega.{arith}
 use borrow.Author.Needs.{needs}
 use lib.ListN.{length, getD}
@@ -27,10 +27,16 @@ loop-holds c =
     let a = at-args .args in
     (omega arith, running-none (a .p) (a .vs .now) (a .s .now) (a .salt .now) (a .rounds .now) (a .betas .now) (a .bs .now) (c .begin .ensures))
 
+-- a turn is one of the rounds
+turn : (c : tie.In-loop Inv-loop μ-loop) → c .before .loop .j < c .before .before .before .before .before .before .before .before .before .args .p .t
+turn c =
+    let pre = c .before .before .before .before .before .before .before .before .before .pre in
+    omega (arith, c .loop-test .taken, pre .0 .0 .some)
+
 shared-slice-read-b : tie.Need-shared-slice-read-b Inv-loop μ-loop
 shared-slice-read-b c =
     let pre = c .before .before .before .before .before .before .before .before .before .before .pre in
-    omega (arith, pre .1 .1)
+    omega (arith, pre .1 .1, turn (c .before))
 
 -- the part is within the rounds
 within : (c : tie.In-loop Inv-loop μ-loop) → c .before .loop .at + partSize (c .before .before .before .before .before .before .before .before .before .args .p) (getD (c .before .before .before .before .before .before .before .before .before .args .bs .now) (c .before .loop .j) 0) ≤ length (c .before .before .before .before .before .before .before .before .before .args .rounds .now)
@@ -38,7 +44,7 @@ within c =
     let args = c .before .before .before .before .before .before .before .before .before .args in
     let pre = c .before .before .before .before .before .before .before .before .before .pre in
     let a = args in
-    part-within (a .p) (a .vs .now) (a .s .now) (a .salt .now) (a .rounds .now) (a .betas .now) (a .bs .now) (c .before .loop .inv .1) (c .loop-test .taken) (pre .1 .2)
+    part-within (a .p) (a .vs .now) (a .s .now) (a .salt .now) (a .rounds .now) (a .betas .now) (a .bs .now) (c .before .loop .inv .1) (turn c) (pre .1 .2)
 
 -- where the part ends, as the code computes it
 ends : (c : tie.After-reply-size Inv-loop μ-loop) → c .before .before .before .loop .at + c .reply-size .result + c .before .before .before .before .before .before .before .before .before .before .before .args .p .digest ≡ c .before .before .before .loop .at + partSize (c .before .before .before .before .before .before .before .before .before .before .before .args .p) (getD (c .before .before .before .before .before .before .before .before .before .before .before .args .bs .now) (c .before .before .before .loop .j) 0)
@@ -71,7 +77,7 @@ add-step c =
 shared-slice-read-t18 : tie.Need-shared-slice-read-t18 Inv-loop μ-loop
 shared-slice-read-t18 c =
     let pre = c .before .before .before .before .before .before .before .before .before .before .before .before .pre in
-    omega (arith, pre .1 .0 .long)
+    omega (arith, pre .1 .0 .long, turn (c .before .before .before))
 
 sub-step : tie.Need-sub-step Inv-loop μ-loop
 sub-step c = omega arith
@@ -90,11 +96,11 @@ step-requires c κs =
     let args = c .before .before .before .before .before .before .before .before .before .before .before .before .before .args in
     let pre = c .before .before .before .before .before .before .before .before .before .before .before .before .before .pre in
     let loop = c .before .before .before .before .before .loop in
-    let loop-test = c .before .before .before .before .loop-test in
+    let this = turn (c .before .before .before .before) in
     let a = args in (
-      (pre .0 .0, pre .0 .1, pre .0 .2, below-at (below 127 (a .betas .now) (pre .1 .0 .ranged)) (loop .j) (omega (arith, pre .1 .0 .long))),
+      (pre .0 .0, pre .0 .1, pre .0 .2, below-at (below 127 (a .betas .now) (pre .1 .0 .ranged)) (loop .j) (omega (arith, pre .1 .0 .long, this))),
       (
-        part-long (a .p) (a .vs .now) (a .s .now) (a .salt .now) (a .rounds .now) (a .betas .now) (a .bs .now) (loop .inv .1) (loop-test .taken) (ends at-reply-size) (pre .1 .2),
+        part-long (a .p) (a .vs .now) (a .s .now) (a .salt .now) (a .rounds .now) (a .betas .now) (a .bs .now) (loop .inv .1) this (ends at-reply-size) (pre .1 .2),
         all-ready (loop .inv .1 .holds),
       ),
     )
@@ -104,10 +110,10 @@ returns c =
     let at-reply-size = c .before .before .before .before .before in
     let args = c .before .before .before .before .before .before .before .before .before .before .before .before .before .before .before .before .args in
     let loop = c .before .before .before .before .before .before .before .before .loop in
-    let loop-test = c .before .before .before .before .before .before .before .loop-test in
+    let this = turn (c .before .before .before .before .before .before .before) in
     let step = c .before .before .step in
     let a = args in
-    running-stops (a .p) (a .vs .now) (a .s .now) (a .salt .now) (a .rounds .now) (a .betas .now) (a .bs .now) (loop .inv .1) (loop-test .taken) (ends at-reply-size) (step .ensures) (c .if1 .taken)
+    running-stops (a .p) (a .vs .now) (a .s .now) (a .salt .now) (a .rounds .now) (a .betas .now) (a .bs .now) (loop .inv .1) this (ends at-reply-size) (step .ensures) (c .if1 .taken)
 
 add-j : tie.Need-add-j Inv-loop μ-loop
 add-j c =
@@ -115,18 +121,18 @@ add-j c =
     omega (arith, pre .0 .0 .t-fits)
 
 loop-less : tie.Need-loop-less Inv-loop μ-loop
-loop-less c = search needs
+loop-less c = omega (arith, turn (c .before .before .before .before .before .before .before .before))
 
 loop-again : tie.Need-loop-again Inv-loop μ-loop
 loop-again c =
     let at-reply-size = c .before .before .before .before .before .before in
     let args = c .before .before .before .before .before .before .before .before .before .before .before .before .before .before .before .before .before .args in
     let loop = c .before .before .before .before .before .before .before .before .before .loop in
-    let loop-test = c .before .before .before .before .before .before .before .before .loop-test in
+    let this = turn (c .before .before .before .before .before .before .before .before) in
     let step = c .before .before .before .step in
     let a = args in (
-      omega arith,
-      running-more (a .p) (a .vs .now) (a .s .now) (a .salt .now) (a .rounds .now) (a .betas .now) (a .bs .now) (loop .inv .1) (loop-test .taken) (ends at-reply-size) (step .ensures) (c .before .if1 .left),
+      omega (arith, this),
+      running-more (a .p) (a .vs .now) (a .s .now) (a .salt .now) (a .rounds .now) (a .betas .now) (a .bs .now) (loop .inv .1) this (ends at-reply-size) (step .ensures) (c .before .if1 .left),
     )
 
 returns-2 : tie.Need-returns-2 Inv-loop μ-loop

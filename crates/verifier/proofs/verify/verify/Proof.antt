@@ -9,7 +9,7 @@ use lib.ListN.{length, take, replicate}
 use lib.Seq.{length-take-le}
 use Rattle.scheme.specs.Key.{keySize, seedOf, syndromeOf, matrix, matrixDrawn, matrixCount}
 use Rattle.expand.proofs.Lent.{Lent, part-length, lent-within, lent-length, lent-part}
-use Rattle.verifier.specs.Vector.{Vector}
+use Rattle.packing.specs.Vector.{Vector}
 use Rattle.verifier.proofs.Keys.{syndrome-read, matrix-vector, count-fits}
 use Rattle.verifier.proofs.Vectors.{same-vector}
 use Rattle.verifier.proofs.Steps.{lengths-stop, key-long, sig-long, key-stops, matrix-short, pieces-answer}

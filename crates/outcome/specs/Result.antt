@@ -1,7 +1,8 @@
 -- What an entry answers that returns a value: the value, or a refusal. Assumes nothing.
+use mathlib.Core.Bool.{false}
 use mathlib.Core.List.{List, [], _∷_}
 use Prim.Native.Nat.{ℕ}
 use Rattle.outcome.specs.Answer.{Refusal, numberOf, Check, _unless_, pick}
 
 pub data Result (A : Type 0) : Type 0 where
   done : A → Result A
@@ -21,3 +22,8 @@ numberIn (refused r) = numberOf r
 abbrev pub valuesIn : {A : Type 0} → Result A → List A
 valuesIn (done a) = a ∷ []
 valuesIn (refused r) = []
+
+-- a result that is a refusal refuses
+abbrev pub refusalIn : {A : Type 0} → Result A → List Check
+refusalIn (done a) = []
+refusalIn (refused r) = r unless false ∷ []
