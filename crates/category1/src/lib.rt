@@ -1,5 +1,9 @@
 // Category 1: every entry at its fixed sizes, over arrays on the stack that have these sizes (a draw's has room for
 // the rest of its last group).
+use profile::Profile;
+use store::Device;
+use store::PutAnswer;
+use store::Store;
 ghost use mathlib.Core.Path.{_≡_};
 ghost use Prim.Native.Nat.{_-_, _*_};
 ghost use lib.ListN.{length};
@@ -10,6 +14,7 @@ ghost use Rattle.scheme.specs.Sign.{signChecks, signature};
 ghost use Rattle.scheme.specs.Verify.{verify as verifyOf};
 ghost use Rattle.scheme.specs.Examine.{examine};
 ghost use Rattle.sampling.specs.Entry.{AnswersSample, AnswersShuffle};
+ghost use Rattle.package.specs.Entries.{MakesPackage, MakesFromLine, Loads, LoadsImage};
 
 // V: 51 rows of 76 values, row by row.
 pub fn sample_matrix(block: &[u8], out: &mut [u8]) -> u8
@@ -128,6 +133,101 @@ pub fn verify_round(
         h,
         challenge,
         reply,
+        &mut block,
+        &mut vs,
+    )
+}
+
+// The package of a profile, and its length.
+pub fn make_package(
+    private: &[u8],
+    master: &[u8],
+    salt: &[u8],
+    profile: Profile,
+    out: &mut [u8],
+    length: &mut usize,
+) -> u8
+    ensures { λ r. ⌜ MakesPackage category1 (now (private .entry)) (now (master .entry)) (now (salt .entry)) profile (now (out .entry)) (now (length .entry)) r (now (out .exit)) (now (length .exit)) ⌝ }
+{
+    let mut block = [0u8; 3500];
+    let mut vs = [0u8; 3884];
+    let mut seeds = [0u8; 2608];
+    let mut states = [0u8; 51834];
+    package::make::make_package(
+        parameters::category1(),
+        private,
+        master,
+        salt,
+        profile,
+        &mut block,
+        &mut vs,
+        &mut seeds,
+        &mut states,
+        out,
+        length,
+    )
+}
+
+// The package of the profile that a line means, and its length.
+pub fn make_package_line(
+    private: &[u8],
+    master: &[u8],
+    salt: &[u8],
+    line: &[u8],
+    out: &mut [u8],
+    length: &mut usize,
+) -> u8
+    ensures { λ r. ⌜ MakesFromLine category1 (now (private .entry)) (now (master .entry)) (now (salt .entry)) (now (line .entry)) (now (out .entry)) (now (length .entry)) r (now (out .exit)) (now (length .exit)) ⌝ }
+{
+    let mut block = [0u8; 3500];
+    let mut vs = [0u8; 3884];
+    let mut seeds = [0u8; 2608];
+    let mut states = [0u8; 51834];
+    package::make::make_from_line(
+        parameters::category1(),
+        private,
+        master,
+        salt,
+        line,
+        &mut block,
+        &mut vs,
+        &mut seeds,
+        &mut states,
+        out,
+        length,
+    )
+}
+
+// Stores the profile of a package for a device, where its signature holds under the key.
+pub fn load(store: Store, key: &[u8], sealed: &[u8], device: Device) -> PutAnswer
+    ensures { λ r. ⌜ Loads category1 (now (key .entry)) (now (sealed .entry)) device store r ⌝ }
+{
+    let mut block = [0u8; 3500];
+    let mut vs = [0u8; 3884];
+    package::load::load(
+        parameters::category1(),
+        store,
+        key,
+        sealed,
+        device,
+        &mut block,
+        &mut vs,
+    )
+}
+
+// The same over the image of a store.
+pub fn load_image(store: &mut [u8], key: &[u8], sealed: &[u8], country: &[u8], class: u32) -> u8
+    ensures { λ r. ⌜ LoadsImage category1 (now (key .entry)) (now (sealed .entry)) (now (country .entry)) class (now (store .entry)) r (now (store .exit)) ⌝ }
+{
+    let mut block = [0u8; 3500];
+    let mut vs = [0u8; 3884];
+    package::load::load_image(
+        parameters::category1(),
+        store,
+        key,
+        sealed,
+        country,
+        class,
         &mut block,
         &mut vs,
     )

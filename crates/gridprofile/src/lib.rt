@@ -12,7 +12,8 @@ ghost use Rattle.scheme.specs.Key.{makeKeyChecks, publicKey};
 ghost use Rattle.scheme.specs.Sign.{signChecks, signature};
 ghost use Rattle.scheme.specs.Verify.{verify};
 ghost use Rattle.scheme.specs.Examine.{examine};
-ghost use Rattle.image.specs.Entries.{ReadsImage, WritesImage};
+ghost use Rattle.image.specs.Entries.{ReadsImage, WritesImage, LooksUp};
+ghost use Rattle.package.specs.Entries.{MakesFromLine, LoadsImage};
 ghost use Rattle.gridprofile.specs.Listing.{PreviewsTo};
 ghost use Rattle.sampling.specs.Entry.{AnswersSample, AnswersShuffle};
 
@@ -155,4 +156,44 @@ pub extern "C" fn gridprofile_preview(input: &[u8], out: &mut [u8], length: &mut
         }
         Previewed::BadSize => 1,
     }
+}
+
+#[no_mangle]
+pub extern "C" fn gridprofile_make_package(
+    private: &[u8],
+    master: &[u8],
+    salt: &[u8],
+    line: &[u8],
+    out: &mut [u8],
+    length: &mut usize,
+) -> u8
+    ensures { λ r. ⌜ MakesFromLine category1 (now (private .entry)) (now (master .entry)) (now (salt .entry)) (now (line .entry)) (now (out .entry)) (now (length .entry)) r (now (out .exit)) (now (length .exit)) ⌝ }
+{
+    category1::make_package_line(private, master, salt, line, out, length)
+}
+
+#[no_mangle]
+pub extern "C" fn gridprofile_load(
+    store: &mut [u8],
+    key: &[u8],
+    sealed: &[u8],
+    country: &[u8],
+    class: u32,
+) -> u8
+    ensures { λ r. ⌜ LoadsImage category1 (now (key .entry)) (now (sealed .entry)) (now (country .entry)) class (now (store .entry)) r (now (store .exit)) ⌝ }
+{
+    category1::load_image(store, key, sealed, country, class)
+}
+
+#[no_mangle]
+pub extern "C" fn gridprofile_lookup(
+    store: &[u8],
+    country: &[u8],
+    class: u32,
+    out: &mut [u8],
+    length: &mut usize,
+) -> u8
+    ensures { λ r. ⌜ LooksUp (now (store .entry)) (now (country .entry)) class (now (out .entry)) (now (length .entry)) r (now (out .exit)) (now (length .exit)) ⌝ }
+{
+    image::lookup_image(store, country, class, out, length)
 }

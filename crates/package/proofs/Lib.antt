@@ -1,0 +1,5 @@
+pub mod SizeLaws
+pub mod MakeLaws
+pub mod LoadLaws
+pub mod TheoremLaws
+pub mod Theorems

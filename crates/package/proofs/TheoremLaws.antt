@@ -1,0 +1,152 @@
+-- The checks of making and of loading, list by list, and a package taken apart. Assumes nothing.
+use mathlib.Core.Path.{_≡_, refl, _∙_, sym, ap}
+use mathlib.Core.Bool.{Bool, true, false, _||_}
+use mathlib.Core.List.{List, [], _∷_, _++_}
+use Prim.Native.Nat.{ℕ, _+_}
+use native.Mathlib.Omega.{arith}
+use lib.Dec.{T, eqb}
+use lib.ListN.{length, length-append}
+use lib.Seq.{take-at, drop-at}
+use Rattle.outcome.specs.Answer.{bad-line, bad-device, Check, _unless_, firstRefusal, pick}
+use Rattle.outcome.proofs.Checks.{passed, passed-front, both-passed}
+use Rattle.parameters.specs.declared.Params.{Params}
+use Rattle.profile.specs.declared.Profile.{Profile}
+use Rattle.outcome.specs.Result.{done}
+use Rattle.profile.specs.Rules.{Class, contains, letters, classIn, isClass, classes, valid}
+use Rattle.profile.specs.Line.{lineOf, readLine}
+use Rattle.profile.proofs.RuleLaws.{holds, inside, parts}
+use Rattle.profile.proofs.Theorems.{line-lengths-hold, reads-written}
+use Rattle.scheme.specs.Key.{keySize}
+use Rattle.scheme.specs.Sign.{signatureSize, signChecks}
+use Rattle.scheme.specs.Verify.{verifyChecks, verify}
+use Rattle.store.specs.declared.Device.{Device}
+use Rattle.store.specs.Keys.{hasClass, deviceOk}
+use Rattle.store.specs.Calls.{putNumber}
+use Rattle.store.proofs.KeyLaws.{device-class}
+use Rattle.store.proofs.PutLaws.{put-number}
+use Rattle.package.specs.Package.{packageMin, packageMax, makeSizes, makeChecks, signatureIn, lineIn, loadSizes, storeChecks, loadChecks}
+
+-- ---- making
+
+-- answered 0, hence the profile is valid and its line is signed
+pub made-passed : (p : Params) (private master salt : List ℕ) (profile : Profile) (lent : ℕ)
+    → firstRefusal (makeChecks p private master salt profile lent) ≡ 0
+    → T (valid classes profile) × (firstRefusal (signChecks p private master salt (lineOf profile) (signatureSize p)) ≡ 0)
+unfolding makeChecks
+made-passed p private master salt profile lent e =
+    let sizes : List Check = makeSizes p private master salt lent in
+    let rule : List Check = bad-line unless valid classes profile ∷ [] in
+    let all = both-passed (sizes ++ rule) (signChecks p private master salt (lineOf profile) (signatureSize p)) e in
+    (passed rule (both-passed sizes rule (all .0) .1) .0, all .1)
+
+-- ---- loading
+
+-- the four lists of loading, each answered 0
+pub record LoadPassed (p : Params) (key sealed : List ℕ) (device : Device) (ps : List Profile) : Type 0 where
+  pub device-ok : deviceOk classes device ≡ true
+  pub sized : firstRefusal (loadSizes p (length key) (length sealed)) ≡ 0
+  pub verified : verify p key (lineIn p sealed) (signatureIn p sealed) ≡ 0
+  pub storing : firstRefusal (storeChecks p device ps (readLine classes (lineIn p sealed))) ≡ 0
+
+module _ (p : Params) (key sealed : List ℕ) (device : Device) (ps : List Profile) where
+  abbrev deviceCheck : List Check
+  deviceCheck = bad-device unless deviceOk classes device ∷ []
+
+  abbrev sizes : List Check
+  sizes = loadSizes p (length key) (length sealed)
+
+  abbrev verifying : List Check
+  verifying = verifyChecks p key (lineIn p sealed) (signatureIn p sealed)
+
+  abbrev storing : List Check
+  storing = storeChecks p device ps (readLine classes (lineIn p sealed))
+
+  pub load-passed : firstRefusal (loadChecks p key sealed device ps) ≡ 0 → LoadPassed p key sealed device ps
+  unfolding loadChecks verify
+  load-passed e =
+      let last = both-passed (deviceCheck ++ sizes ++ verifying) storing e in
+      let third = both-passed (deviceCheck ++ sizes) verifying (last .0) in
+      let second = both-passed deviceCheck sizes (third .0) in
+      record {
+        device-ok = holds (deviceOk classes device) (passed deviceCheck (second .0) .0);
+        sized = second .1;
+        verified = third .1;
+        storing = last .1;
+      }
+
+  pub load-accepts : LoadPassed p key sealed device ps → firstRefusal (loadChecks p key sealed device ps) ≡ 0
+  unfolding loadChecks verify
+  load-accepts all =
+      passed-front (deviceCheck ++ sizes ++ verifying) storing
+      (passed-front (deviceCheck ++ sizes) verifying
+      (passed-front deviceCheck sizes (rw (all .device-ok)) ∙ all .sized)
+      ∙ all .verified)
+      ∙ all .storing
+
+-- where a profile is read, what is left is putting it
+pub storing-put : (p : Params) (sealed : List ℕ) (device : Device) (ps : List Profile) (profile : Profile)
+    → readLine classes (lineIn p sealed) ≡ done profile
+    → firstRefusal (storeChecks p device ps (readLine classes (lineIn p sealed))) ≡ putNumber device profile ps
+storing-put p sealed device ps profile read = rw read (sym (put-number device profile ps))
+
+-- what the verifier answers 0 for has a key of its size
+pub key-sized : (p : Params) (key msg sig : List ℕ) → verify p key msg sig ≡ 0 → eqb (length key) (keySize p) ≡ true
+unfolding verify verifyChecks
+key-sized p key msg sig e = holds (eqb (length key) (keySize p)) (passed (verifyChecks p key msg sig) e .0)
+
+-- ---- a package
+
+module _ (p : Params) (sig line : List ℕ) (sized : length sig ≡ signatureSize p) where
+  pub signature-back : signatureIn p (sig ++ line) ≡ sig
+  unfolding signatureIn
+  signature-back = take-at sig line (signatureSize p) sized
+
+  pub line-back : lineIn p (sig ++ line) ≡ line
+  unfolding lineIn
+  line-back = drop-at sig line (signatureSize p) sized
+
+-- ---- the device of a valid profile
+
+or-second : (a b : Bool) → b ≡ true → (a || b) ≡ true
+or-second true b e = refl
+or-second false b e = e
+
+-- the class that a table gives for some volts is one of the table
+class-known : (table : List Class) (volts letter : ℕ) → isClass (classIn table volts) letter ≡ true → hasClass table letter ≡ true
+class-known [] volts letter e = e
+class-known (c ∷ cs) volts letter e = go (contains (c .volts) volts) e (class-known cs volts letter)
+  where
+    go : (b : Bool) → isClass (pick b (done (c .letter)) (classIn cs volts)) letter ≡ true
+        → (isClass (classIn cs volts) letter ≡ true → hasClass cs letter ≡ true) → (eqb letter (c .letter) || hasClass cs letter) ≡ true
+    go true e rest = rw e
+    go false e rest = or-second (eqb letter (c .letter)) (hasClass cs letter) (rest e)
+
+pub device-of-valid : (table : List Class) (profile : Profile) (device : Device) → T (valid table profile)
+    → device .country ≡ profile .country → device .class ≡ profile .class → deviceOk table device ≡ true
+device-of-valid table profile device ok country class =
+    let rules = parts table profile ok in
+    let first : contains letters (device .country .first) ≡ true = rw country (rules .first) in
+    let second : contains letters (device .country .second) ≡ true = rw country (rules .second) in
+    device-class table device first second ∙ rw class (class-known table (profile .volts) (profile .class) (rules .agrees))
+
+-- ---- the package of a valid profile whose signature verifies is accepted where the device is set and putting is
+
+module _ (p : Params) (key sig : List ℕ) (profile : Profile) (device : Device) (ps : List Profile) where
+  pub package-loads : T (valid classes profile) → length sig ≡ signatureSize p → verify p key (lineOf profile) sig ≡ 0
+      → deviceOk classes device ≡ true → putNumber device profile ps ≡ 0
+      → firstRefusal (loadChecks p key (sig ++ lineOf profile) device ps) ≡ 0
+  package-loads ok sized verified fine put =
+      let sealed : List ℕ = sig ++ lineOf profile in
+      let line : lineIn p sealed ≡ lineOf profile = line-back p sig (lineOf profile) sized in
+      let bounds = line-lengths-hold classes profile ok in
+      let long : length sealed ≡ signatureSize p + length (lineOf profile) = length-append sig (lineOf profile) ∙ ap (λ (k : ℕ). k + length (lineOf profile)) sized in
+      load-accepts p key sealed device ps
+      (record {
+        device-ok = fine;
+        sized = rw (
+          key-sized p key (lineOf profile) sig verified,
+          inside (packageMin p) (packageMax p) (length sealed) (omega (arith, bounds .0)) (omega (arith, bounds .1)),
+        );
+        verified = rw (line, signature-back p sig (lineOf profile) sized) verified;
+        storing = storing-put p sealed device ps profile (rw line (reads-written classes profile ok)) ∙ put;
+      })

@@ -1,0 +1,84 @@
+-- A package is the signature of a line, followed by the line (document 01, "Profile line, package, shelf"): making one, and loading
+-- one, each as its tests in the order in which they refuse (table "Returned" and the paragraph after it).
+-- Assumes nothing.
+use mathlib.Core.Bool.{false}
+use mathlib.Core.List.{List, [], _∷_, _++_}
+use Prim.Native.Nat.{ℕ, _+_}
+use lib.Dec.{eqb}
+use lib.ListN.{length, take, drop}
+use Rattle.outcome.specs.Answer.{bad-size, bad-line, bad-device, Check, _unless_}
+use Rattle.parameters.specs.declared.Params.{Params}
+use Rattle.profile.specs.declared.Profile.{Profile}
+use Rattle.outcome.specs.Result.{Result, done, refused, refusalIn}
+use Rattle.profile.specs.Rules.{_to_, contains, classes, valid}
+use Rattle.profile.specs.Line.{shortest, longest, lineOf, readLine}
+use Rattle.scheme.specs.Key.{keySize}
+use Rattle.scheme.specs.Sign.{signatureSize, signChecks, signature}
+use Rattle.scheme.specs.Verify.{verifyChecks}
+use Rattle.store.specs.declared.Device.{Device}
+use Rattle.store.specs.Keys.{deviceOk}
+use Rattle.store.specs.Calls.{putChecks}
+
+module _ (p : Params) where
+  -- the sizes of packages: a signature with the shortest, with the longest line
+  abbrev pub packageMin : ℕ
+  packageMin = signatureSize p + shortest
+
+  abbrev pub packageMax : ℕ
+  packageMax = signatureSize p + longest
+
+  -- ---- making
+
+  -- the package of a line
+  unfoldable pub packageOf : List ℕ → List ℕ → List ℕ → List ℕ → List ℕ
+  packageOf private master salt line = signature p private master salt line ++ line
+
+  -- seeds, salt, and how many bytes are lent for the package
+  abbrev pub makeSizes : List ℕ → List ℕ → List ℕ → ℕ → List Check
+  makeSizes private master salt lent =
+      bad-size unless eqb (length private) (p .digest)
+      ∷ bad-size unless eqb (length master) (p .seed)
+      ∷ bad-size unless eqb (length salt) (p .digest)
+      ∷ bad-size unless eqb lent packageMax
+      ∷ []
+
+  -- sizes; the profile's rules; then signing its line
+  unfoldable pub makeChecks : List ℕ → List ℕ → List ℕ → Profile → ℕ → List Check
+  makeChecks private master salt profile lent =
+      makeSizes private master salt lent
+      ++ (bad-line unless valid classes profile ∷ [])
+      ++ signChecks p private master salt (lineOf profile) (signatureSize p)
+
+  -- from a line's bytes: sizes; the line's size and rules, as `readLine` has them; then signing it
+  unfoldable pub makeLineChecks : List ℕ → List ℕ → List ℕ → List ℕ → ℕ → List Check
+  makeLineChecks private master salt line lent =
+      makeSizes private master salt lent
+      ++ refusalIn (readLine classes line)
+      ++ signChecks p private master salt line (signatureSize p)
+
+  -- ---- loading
+
+  -- a package's signature, and its line
+  unfoldable pub signatureIn : List ℕ → List ℕ
+  signatureIn sealed = take (signatureSize p) sealed
+
+  unfoldable pub lineIn : List ℕ → List ℕ
+  lineIn sealed = drop (signatureSize p) sealed
+
+  -- the sizes of key and package
+  abbrev pub loadSizes : ℕ → ℕ → List Check
+  loadSizes key sealed =
+      bad-size unless eqb key (keySize p) ∷ bad-size unless contains (packageMin to packageMax) sealed ∷ []
+
+  -- what was read is stored for the device, where something was read
+  abbrev pub storeChecks : Device → List Profile → Result Profile → List Check
+  storeChecks device ps (done profile) = putChecks device profile ps
+  storeChecks device ps (refused r) = r unless false ∷ []
+
+  -- The device; sizes; the signature over the line; the line; then storing among the profiles ps.
+  unfoldable pub loadChecks : List ℕ → List ℕ → Device → List Profile → List Check
+  loadChecks key sealed device ps =
+      (bad-device unless deviceOk classes device ∷ [])
+      ++ loadSizes (length key) (length sealed)
+      ++ verifyChecks p key (lineIn sealed) (signatureIn sealed)
+      ++ storeChecks device ps (readLine classes (lineIn sealed))

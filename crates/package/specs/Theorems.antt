@@ -1,0 +1,60 @@
+-- What packages and the loader owe to one another, of every program that meets their contracts. The proofs stand in
+-- proofs/Theorems.antt.
+-- Assumes nothing.
+use mathlib.Core.Path.{_≡_}
+use mathlib.Core.Bool.{true, _||_}
+use mathlib.Core.List.{List, [], _∷_, _++_}
+use Prim.Native.Nat.{ℕ}
+use lib.Dec.{T, ltb}
+use lib.ListN.{length, take}
+use Rattle.parameters.specs.declared.Params.{Params}
+use Rattle.profile.specs.declared.Profile.{Profile}
+use Rattle.outcome.specs.Result.{done}
+use Rattle.profile.specs.Rules.{classes, valid}
+use Rattle.profile.specs.Line.{lineOf}
+use Rattle.scheme.specs.Key.{publicKey}
+use Rattle.scheme.specs.Verify.{verify}
+use Rattle.store.specs.declared.Device.{Device}
+use Rattle.store.specs.declared.Store.{Store}
+use Rattle.store.specs.declared.PutAnswer.{PutAnswer}
+use Rattle.store.specs.Keys.{keyOf}
+use Rattle.store.specs.Stored.{capacity, stored, find, isStored}
+use Rattle.store.specs.Calls.{lookupIn, newer, Stores}
+use Rattle.store.specs.Reached.{Call, Reached}
+use Rattle.package.specs.Package.{signatureIn}
+use Rattle.package.specs.Entries.{MakesPackage, Loads}
+
+module _ (p : Params) where
+  -- A made package loads: where package making answered 0 for a profile, loading what it wrote under the key that the rules give for
+  -- the private seed, on a device of the profile's country and class, answers 0 in every store, reached or not, that holds no
+  -- profile of the pair or one with a smaller serial, and holds the pair or has room; and looking up the pair then gives the profile.
+  abbrev pub MadeLoads : Type 0
+  MadeLoads =
+      (private master salt : List ℕ) (profile : Profile) (old sealed : List ℕ) (before size : ℕ)
+      (device : Device) (store : Store) (r : PutAnswer)
+      → MakesPackage p private master salt profile old before 0 sealed size
+      → device .country ≡ profile .country → device .class ≡ profile .class
+      → newer profile (find (keyOf profile) (stored store)) ≡ true
+      → (isStored (keyOf profile) (stored store) || ltb (length (stored store)) capacity) ≡ true
+      → Loads p (publicKey p private) (take size sealed) device store r
+      → (r .answer ≡ 0) × (lookupIn classes device (stored (r .store)) ≡ done profile)
+
+  -- Nothing else gets in: where loading answers 0, what is stored is a valid profile of this device's own country and class, and the
+  -- verifier answers 0 for the package's signature over exactly the line of what is stored.
+  abbrev pub NothingElse : Type 0
+  NothingElse =
+      (key sealed : List ℕ) (device : Device) (old : Store) (r : PutAnswer)
+      → Loads p key sealed device old r → r .answer ≡ 0
+      → (profile : Profile) × Stores profile (stored old) (stored (r .store)) × T (valid classes profile)
+      × (profile .country ≡ device .country) × (profile .class ≡ device .class)
+      × (sealed ≡ signatureIn p sealed ++ lineOf profile)
+      × (verify p key (lineOf profile) (signatureIn p sealed) ≡ 0)
+
+  -- The loader goes from reached stores to reached stores, so that all that holds of these holds of what it keeps: an accepted load is
+  -- a call of `put` for this device and the profile of the package's line, and a refused one is none.
+  abbrev pub LoadReaches : Type 0
+  LoadReaches =
+      (calls : List Call) (key sealed : List ℕ) (device : Device) (old : Store) (r : PutAnswer)
+      → Reached calls (stored old) → Loads p key sealed device old r
+      → (r .answer ≡ 0 → (profile : Profile) × Reached (calls ++ (record { device = device; profile = profile } ∷ [])) (stored (r .store)))
+      × ((r .answer ≡ 0 → ⊥) → Reached calls (stored (r .store)))

@@ -1,0 +1,108 @@
+// Loading a package: a profile is stored only where its signature holds and it is for this device.
+use crate::sizes;
+use image::get::read_store;
+use image::put::write_store;
+use parameters::Params;
+use profile::Country;
+use profile::ReadLine;
+use profile::read_line;
+use store::Device;
+use store::PutAnswer;
+use store::Store;
+use store::device_ok;
+use store::put;
+ghost use mathlib.Core.Path.{_≡_};
+ghost use lib.ListN.{length};
+ghost use Rattle.image.specs.Entries.{deviceOf};
+ghost use Rattle.package.specs.Entries.{Scratch, Loads, LoadsImage};
+
+// An answer that leaves the store as it was.
+fn refuse(answer: u8, store: Store) -> PutAnswer
+    ensures { λ r. ⌜ (r .answer ≡ answer) × (r .store ≡ store) ⌝ }
+{
+    PutAnswer {
+        answer: answer,
+        store: store,
+    }
+}
+
+// Stores the profile of a package's line for a device.
+pub fn load(
+    p: Params,
+    store: Store,
+    key: &[u8],
+    sealed: &[u8],
+    device: Device,
+    block: &mut [u8],
+    vs: &mut [u8],
+) -> PutAnswer
+    requires { ⌜ Scratch p (now block) (now vs) ⌝ }
+    ensures { λ r. ⌜ Loads p (now (key .entry)) (now (sealed .entry)) device store r ⌝ }
+{
+    if !device_ok(device) {
+        return refuse(10, store);
+    }
+    let sized = sizes::check_load(p, key.len(), sealed.len());
+    if sized != 0 {
+        return refuse(sized, store);
+    }
+    let size = sizes::signature_size(p);
+    let refusal = verifier::verify::verify(p, key, &sealed[size..], &sealed[..size], block, vs);
+    if refusal != 0 {
+        return refuse(refusal, store);
+    }
+    match read_line(&sealed[size..]) {
+        ReadLine::Read(profile) => put(store, profile, device),
+        ReadLine::BadSize => refuse(1, store),
+        ReadLine::BadLine => refuse(5, store),
+    }
+}
+
+// The setting that two bytes and a number make.
+fn device_of(country: &[u8], class: u32) -> Device
+    requires { ⌜ length (now country) ≡ 2 ⌝ }
+    ensures { λ r. ⌜ r ≡ deviceOf (now (country .entry)) class ⌝ }
+{
+    let letters = Country {
+        first: country[0],
+        second: country[1],
+    };
+    Device {
+        country: letters,
+        class: class,
+    }
+}
+
+// Loads into the store that an image means; the image then means the store after.
+pub fn load_image(
+    p: Params,
+    store: &mut [u8],
+    key: &[u8],
+    sealed: &[u8],
+    country: &[u8],
+    class: u32,
+    block: &mut [u8],
+    vs: &mut [u8],
+) -> u8
+    requires { ⌜ Scratch p (now block) (now vs) ⌝ }
+    ensures { λ r. ⌜ LoadsImage p (now (key .entry)) (now (sealed .entry)) (now (country .entry)) class (now (store .entry)) r (now (store .exit)) ⌝ }
+{
+    if country.len() != 2 {
+        return 10;
+    }
+    let device = device_of(country, class);
+    if !device_ok(device) {
+        return 10;
+    }
+    if store.len() != 1024 {
+        return 1;
+    }
+    let before = read_store(store);
+    let loaded = load(p, before, key, sealed, device, block, vs);
+    if loaded.answer != 0 {
+        return loaded.answer;
+    }
+    let after = loaded.store;
+    write_store(after, store);
+    0
+}

@@ -1,0 +1,131 @@
+// Making a package: a line is signed, and follows its signature.
+use crate::sizes;
+use parameters::Params;
+use profile::LONGEST;
+use profile::Profile;
+use profile::ReadLine;
+use profile::WriteLine;
+use profile::read_line;
+use profile::write_line;
+ghost use Rattle.package.specs.Entries.{Scratch, SignScratch, Room, Seals, MakesPackage, MakesFromLine};
+
+// Signs a line into the front of what is lent and puts the line behind the signature.
+fn seal(
+    p: Params,
+    private: &[u8],
+    master: &[u8],
+    salt: &[u8],
+    line: &[u8],
+    block: &mut [u8],
+    vs: &mut [u8],
+    seeds: &mut [u8],
+    states: &mut [u8],
+    out: &mut [u8],
+    length: &mut usize,
+) -> u8
+    requires { ⌜ Scratch p (now block) (now vs) × SignScratch p (now seeds) (now states) ⌝ }
+    requires { ⌜ Room p (now line) (now out) ⌝ }
+    ensures { λ r. ⌜ Seals p (now (private .entry)) (now (master .entry)) (now (salt .entry)) (now (line .entry)) (now (out .entry)) (now (length .entry)) r (now (out .exit)) (now (length .exit)) ⌝ }
+{
+    let size = sizes::signature_size(p);
+    let end = size + line.len();
+    let refusal = signer::sign::sign(
+        p,
+        private,
+        master,
+        salt,
+        line,
+        block,
+        vs,
+        seeds,
+        states,
+        &mut out[..size],
+    );
+    if refusal != 0 {
+        return refusal;
+    }
+    buffers::copy(&mut out[size..end], line);
+    *length = end;
+    0
+}
+
+// The package of a profile.
+pub fn make_package(
+    p: Params,
+    private: &[u8],
+    master: &[u8],
+    salt: &[u8],
+    profile: Profile,
+    block: &mut [u8],
+    vs: &mut [u8],
+    seeds: &mut [u8],
+    states: &mut [u8],
+    out: &mut [u8],
+    length: &mut usize,
+) -> u8
+    requires { ⌜ Scratch p (now block) (now vs) × SignScratch p (now seeds) (now states) ⌝ }
+    ensures { λ r. ⌜ MakesPackage p (now (private .entry)) (now (master .entry)) (now (salt .entry)) profile (now (out .entry)) (now (length .entry)) r (now (out .exit)) (now (length .exit)) ⌝ }
+{
+    let refusal = sizes::check_make(p, private, master, salt, out.len());
+    if refusal != 0 {
+        return refusal;
+    }
+    let mut line = [0u8; LONGEST];
+    match write_line(profile, &mut line) {
+        WriteLine::Written(n) => seal(
+            p,
+            private,
+            master,
+            salt,
+            &line[..n],
+            block,
+            vs,
+            seeds,
+            states,
+            out,
+            length,
+        ),
+        WriteLine::BadSize => 1,
+        WriteLine::BadProfile => 5,
+    }
+}
+
+// The package of the profile that a line means.
+pub fn make_from_line(
+    p: Params,
+    private: &[u8],
+    master: &[u8],
+    salt: &[u8],
+    line: &[u8],
+    block: &mut [u8],
+    vs: &mut [u8],
+    seeds: &mut [u8],
+    states: &mut [u8],
+    out: &mut [u8],
+    length: &mut usize,
+) -> u8
+    requires { ⌜ Scratch p (now block) (now vs) × SignScratch p (now seeds) (now states) ⌝ }
+    ensures { λ r. ⌜ MakesFromLine p (now (private .entry)) (now (master .entry)) (now (salt .entry)) (now (line .entry)) (now (out .entry)) (now (length .entry)) r (now (out .exit)) (now (length .exit)) ⌝ }
+{
+    let refusal = sizes::check_make(p, private, master, salt, out.len());
+    if refusal != 0 {
+        return refusal;
+    }
+    match read_line(line) {
+        ReadLine::Read(profile) => seal(
+            p,
+            private,
+            master,
+            salt,
+            line,
+            block,
+            vs,
+            seeds,
+            states,
+            out,
+            length,
+        ),
+        ReadLine::BadSize => 1,
+        ReadLine::BadLine => 5,
+    }
+}
