@@ -53,6 +53,11 @@ extern "C" {
 /* A listing: its header and 16 rows of at most 16 bytes. */
 #define GRIDPROFILE_LISTING_BYTES 277
 
+/* Packages and the image of a store, in bytes. */
+#define GRIDPROFILE_PACKAGE_MIN_BYTES 19194
+#define GRIDPROFILE_PACKAGE_MAX_BYTES 19224
+#define GRIDPROFILE_STORE_IMAGE_BYTES 1024
+
 /* Blocks that numbers are drawn from, in bytes. */
 #define GRIDPROFILE_MATRIX_BLOCK_BYTES 3500
 #define GRIDPROFILE_EXPONENTS_BLOCK_BYTES 96
@@ -186,6 +191,38 @@ uint8_t gridprofile_write_line(const uint8_t *profile, size_t profile_len, uint8
  * where out_len is another; *length is then as it was. */
 uint8_t gridprofile_preview(const uint8_t *input, size_t input_len, uint8_t *out, size_t out_len,
                             size_t *length);
+
+/* Signs a profile line and writes its package, the signature and then the line, at the front of
+ * GRIDPROFILE_PACKAGE_MAX_BYTES lent bytes, and its length to *length; bytes past it are not
+ * touched. Seeds and salt are as for gridprofile_sign. Refuses with 1 where one of them or the
+ * buffer has another length or the line has no line's length; with 5 where the line breaks a rule;
+ * with 2 where a draw is short. *length is then as it was. */
+uint8_t gridprofile_make_package(const uint8_t *private_seed, size_t private_seed_len,
+                                 const uint8_t *master_seed, size_t master_seed_len,
+                                 const uint8_t *salt, size_t salt_len, const uint8_t *line,
+                                 size_t line_len, uint8_t *package, size_t package_len,
+                                 size_t *length);
+
+/* Loads a package into a store, on a device that is set to a country (two letters) and a class (the
+ * letter's number, 65 to 68). A store is an image of GRIDPROFILE_STORE_IMAGE_BYTES, 16 images of
+ * profiles, all zero when it is empty; a slot whose first byte is 0 is free. Which slot a profile
+ * goes to is open. A greater serial replaces the stored profile of its country and class. Refuses,
+ * in this order, with 10 where country or class are none (a country of another length too); with 1
+ * where image or key have another length or the package has not GRIDPROFILE_PACKAGE_MIN_BYTES to
+ * GRIDPROFILE_PACKAGE_MAX_BYTES; with 3, 2 and 4 as gridprofile_verify does; with 5 where the line
+ * breaks a rule; with 6 where the profile is for another country or class; with 7 where its serial
+ * is not greater than the stored one; with 8 where 16 others are stored. */
+uint8_t gridprofile_load(uint8_t *store, size_t store_len, const uint8_t *key, size_t key_len,
+                         const uint8_t *package, size_t package_len, const uint8_t *country,
+                         size_t country_len, uint32_t class_letter);
+
+/* Writes the line of the profile that a store has for a country and class, and its length, as
+ * gridprofile_write_line does. Refuses with 10 where country or class are none; with 1 where image
+ * or buffer have another length; with 9 where nothing is stored for them; with 5 where what is
+ * stored breaks a rule, which no image made by this library does. *length is then as it was. */
+uint8_t gridprofile_lookup(const uint8_t *store, size_t store_len, const uint8_t *country,
+                           size_t country_len, uint32_t class_letter, uint8_t *line,
+                           size_t line_len, size_t *length);
 
 #ifdef __cplusplus
 }

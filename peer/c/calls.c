@@ -126,9 +126,35 @@ static void listing(void)
     expect("its length", length == sizeof one - 1, 1, out, out, 0);
 }
 
+/* A package made, loaded, looked up, and refused the second time. */
+static void loading(void)
+{
+    static const char line[] = "GP1,XA,B,12,230,50,1150,100,800,1500,1500,100,-2500,100\n";
+    static const uint8_t seed[GRIDPROFILE_PRIVATE_SEED_BYTES], master[GRIDPROFILE_MASTER_SEED_BYTES];
+    static const uint8_t salt[GRIDPROFILE_SALT_BYTES], country[2] = {'X', 'A'};
+    static uint8_t key[GRIDPROFILE_KEY_BYTES], package[GRIDPROFILE_PACKAGE_MAX_BYTES];
+    static uint8_t store[GRIDPROFILE_STORE_IMAGE_BYTES];
+    const uint8_t *text = (const uint8_t *)line;
+    uint8_t out[GRIDPROFILE_LINE_MAX_BYTES];
+    size_t length = 0, written = 0;
+    int answer = gridprofile_make_package(seed, sizeof seed, master, sizeof master, salt, sizeof salt,
+                                          text, sizeof line - 1, package, sizeof package, &length);
+    expect("gridprofile_make_package", answer, GRIDPROFILE_DONE, package, salt, sizeof salt);
+    (void)gridprofile_make_key(seed, sizeof seed, key, sizeof key);
+    answer = gridprofile_load(store, sizeof store, key, sizeof key, package, length, country, 2, 'B');
+    expect("gridprofile_load", answer, GRIDPROFILE_DONE, key, key, 0);
+    answer = gridprofile_lookup(store, sizeof store, country, 2, 'B', out, sizeof out, &written);
+    expect("gridprofile_lookup", answer, GRIDPROFILE_DONE, out, text, sizeof line - 1);
+    answer = gridprofile_load(store, sizeof store, key, sizeof key, package, length, country, 2, 'B');
+    expect("gridprofile_load again", answer, GRIDPROFILE_OLD_SERIAL, key, key, 0);
+    answer = gridprofile_lookup(store, sizeof store, country, 2, 'C', out, sizeof out, &written);
+    expect("gridprofile_lookup of another class", answer, GRIDPROFILE_NOT_STORED, out, text, written);
+}
+
 int main(void)
 {
     packing();
+    loading();
     listing();
     lines();
     signing();

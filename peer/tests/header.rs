@@ -5,6 +5,7 @@ use peer::line;
 use peer::preview;
 use peer::refusal;
 use peer::sizes::CATEGORY_1;
+use peer::store;
 use std::collections::BTreeMap;
 
 const HEADER: &str = include_str!("../../include/gridprofile.h");
@@ -39,6 +40,9 @@ fn expected() -> BTreeMap<String, usize> {
         ("LINE_MAX_BYTES", line::LONGEST),
         ("PROFILE_IMAGE_BYTES", line::IMAGE),
         ("LISTING_BYTES", preview::LISTING),
+        ("PACKAGE_MIN_BYTES", s.signature() + line::SHORTEST),
+        ("PACKAGE_MAX_BYTES", s.signature() + line::LONGEST),
+        ("STORE_IMAGE_BYTES", store::STORE),
         ("MATRIX_BLOCK_BYTES", s.matrix_block),
         ("EXPONENTS_BLOCK_BYTES", s.exponents_block),
         ("MASK_VALUES_BLOCK_BYTES", s.mask_values_block),
