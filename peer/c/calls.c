@@ -140,11 +140,13 @@ static void loading(void)
     int answer = gridprofile_make_package(seed, sizeof seed, master, sizeof master, salt, sizeof salt,
                                           text, sizeof line - 1, package, sizeof package, &length);
     expect("gridprofile_make_package", answer, GRIDPROFILE_DONE, package, salt, sizeof salt);
+    expect("its length", length == GRIDPROFILE_SIGNATURE_BYTES + sizeof line - 1, 1, package, package, 0);
     (void)gridprofile_make_key(seed, sizeof seed, key, sizeof key);
     answer = gridprofile_load(store, sizeof store, key, sizeof key, package, length, country, 2, 'B');
     expect("gridprofile_load", answer, GRIDPROFILE_DONE, key, key, 0);
     answer = gridprofile_lookup(store, sizeof store, country, 2, 'B', out, sizeof out, &written);
     expect("gridprofile_lookup", answer, GRIDPROFILE_DONE, out, text, sizeof line - 1);
+    expect("its length", written == sizeof line - 1, 1, out, out, 0);
     answer = gridprofile_load(store, sizeof store, key, sizeof key, package, length, country, 2, 'B');
     expect("gridprofile_load again", answer, GRIDPROFILE_OLD_SERIAL, key, key, 0);
     answer = gridprofile_lookup(store, sizeof store, country, 2, 'C', out, sizeof out, &written);

@@ -5,10 +5,40 @@ use peer::fast;
 use peer::harness::{Lent, Tally};
 use peer::line::{write_line, Profile, LONGEST};
 use peer::rng::Rng;
+use peer::scheme;
 use peer::sizes::{Sizes, CATEGORY_1};
-use peer::store::{self, Device, Store, STORE};
+use peer::store::{self, Device, Store, Verify, STORE};
 
 pub const S: Sizes = CATEGORY_1;
+
+/// The shortest and the longest package.
+pub const SHORTEST_PACKAGE: usize = 19_194;
+pub const LONGEST_PACKAGE: usize = 19_224;
+
+/// Few countries, so that pairs come again; with four classes they are more pairs than fit.
+pub const COUNTRIES: [&[u8; 2]; 6] = [b"XA", b"XB", b"XC", b"XD", b"XE", b"AX"];
+
+/// Every device of these countries.
+pub fn devices() -> impl Iterator<Item = Device<'static>> {
+    COUNTRIES.into_iter().flat_map(|country| (65..69).map(move |class| Device { country, class }))
+}
+
+/// The clear checker of the independent program.
+pub const CLEAR: Verify = &|key, message, signature| scheme::verify(&S, key, message, signature);
+
+/// A key and a package.
+#[derive(Clone, Copy)]
+pub struct Sent<'a> {
+    pub key: &'a [u8],
+    pub package: &'a [u8],
+}
+
+impl Sent<'_> {
+    fn shown(&self) -> String {
+        let line = &self.package[S.signature().min(self.package.len())..];
+        format!("{} bytes of a key, line {:?}", self.key.len(), String::from_utf8_lossy(line))
+    }
+}
 
 /// The images of both, which mean the same store. The slots' order is the program's choice.
 pub struct Both {
@@ -30,38 +60,50 @@ impl Both {
         Store::from_image(&self.plain).sorted()
     }
 
-    /// Loads in both. `due` is what the independent checker says of the package.
-    pub fn load(&mut self, t: &mut Tally, key: &[u8], package: &[u8], device: &Device, due: u8) -> u8 {
+    /// Loads in both, where `verify` judges for the independent program. Both stores mean the same
+    /// after it; a refusal leaves every byte as it was.
+    pub fn load(&mut self, t: &mut Tally, sent: Sent, device: &Device, verify: Verify) -> u8 {
+        let shown = || format!("{device:?}, {}", sent.shown());
         let mut lent = Lent::holding(&self.proved, t.inputs());
-        let answer = archive::load(lent.part(), key, package, device);
-        let expected = store::load(&mut self.plain, key, package, device, &|_, _, _| due);
-        let shown =
-            || format!("{device:?}, line {:?}", String::from_utf8_lossy(&package[S.signature().min(package.len())..]));
-        if answer == 0 {
-            assert_eq!(Store::from_image(lent.content()).sorted(), self.stored(), "after load, {}", shown());
-        } else {
+        let (key, package) = (sent.key.to_vec(), sent.package.to_vec());
+        let answer = archive::load(lent.part(), &key, &package, device);
+        assert!(key == sent.key && package == sent.package, "inputs of load, {}", shown());
+        let expected = store::load(&mut self.plain, sent.key, sent.package, device, verify);
+        if answer != 0 {
             assert!(lent.content() == self.proved, "after a refused load, {}", shown());
         }
         self.proved = lent.content().to_vec();
         t.count(answer, expected, shown);
+        assert_eq!(Store::from_image(&self.proved).sorted(), self.stored(), "after load, {}", shown());
         answer
     }
 
+    /// Looks up in both, with `room` bytes lent for the line.
     pub fn lookup(&self, t: &mut Tally, device: &Device, room: usize) -> u8 {
         let old = t.inputs().wrapping_mul(0x9E37_79B9);
-        let proved = |out: &mut [u8]| archive::lookup(&self.proved, device, out, old);
-        t.both(room, proved, |out| store::lookup(&self.plain, device, out, old), || format!("{device:?} into {room}"))
+        let (image, shown) = (self.proved.clone(), || format!("{device:?} into {room}"));
+        let proved = |out: &mut [u8]| archive::lookup(&image, device, out, old);
+        let answer = t.both(room, proved, |out| store::lookup(&self.plain, device, out, old), shown);
+        assert!(image == self.proved, "image of lookup, {}", shown());
+        answer
     }
 
     /// A lookup as a device makes it.
     pub fn find(&self, t: &mut Tally, device: &Device) -> u8 {
         self.lookup(t, device, LONGEST)
     }
+
+    /// Looks every pair up.
+    pub fn find_all(&self, t: &mut Tally) {
+        for device in devices() {
+            self.find(t, &device);
+        }
+    }
 }
 
 /// A signer, with the fast program: a test needs many packages.
 pub struct Signer {
-    private_seed: Vec<u8>,
+    pub private_seed: Vec<u8>,
     pub key: Vec<u8>,
 }
 

@@ -1,111 +1,215 @@
-//! Every pair of refusals of loading that one input can have: the earlier wins. And the worked cases.
+//! Every pair of refusals that one input can have: the earlier wins. And the worked cases.
 
-use crate::both::{device_of, Both, Signer, S};
+use crate::both::{device_of, Both, Sent, Signer, CLEAR, S};
 use peer::harness::Tally;
 use peer::line::cases::valid;
 use peer::line::{image, read_line, Profile};
 use peer::rng::Rng;
+use peer::scheme::challenges;
+use peer::scheme::forge::Forger;
 use peer::store::{Device, STORE};
 
 const LINE: &[u8] = b"GP1,XA,B,12,230,50,1150,100,800,1500,1500,100,-2500,100\n";
-/// The same at a frequency that there is not.
-const BAD_LINE: &[u8] = b"GP1,XA,B,12,230,55,1150,100,800,1500,1500,100,-2500,100\n";
+/// The same at a frequency that there is not, of another class, with a byte after the line feed, and
+/// without one.
+const BAD_LINES: [&[u8]; 4] = [
+    b"GP1,XA,B,12,230,55,1150,100,800,1500,1500,100,-2500,100\n",
+    b"GP1,XA,B,12,260,50,1150,100,800,1500,1500,100,-2500,100\n",
+    b"GP1,XA,B,12,230,50,1150,100,800,1500,1500,100,-2500,100\n\n",
+    b"GP1,XA,B,12,230,50,1150,100,800,1500,1500,100,-2500,100",
+];
+
+/// What a signer claims beside honest rounds.
+#[derive(Clone, Copy, PartialEq, Debug)]
+enum Claim {
+    Honest,
+    AnyC,
+    AnyH,
+}
+
+const CLAIMS: [Claim; 3] = [Claim::Honest, Claim::AnyC, Claim::AnyH];
 
 #[derive(Clone)]
 struct Input {
     image: Vec<u8>,
     key: Vec<u8>,
     line: &'static [u8],
-    spoil: fn(&mut Vec<u8>),
-    cut: fn(&mut Vec<u8>),
+    claim: Claim,
+    damage: Vec<fn(&mut Vec<u8>)>,
+    room: Option<usize>,
     country: &'static [u8],
     class: u32,
 }
 
-type Spoil = fn(&mut Input);
+/// The line's profile, at other countries, classes and serials.
+fn at(country: [u8; 2], class: u8, serial: u32) -> Profile {
+    Profile { country, class, serial, ..read_line(LINE).expect("a line") }
+}
 
-/// A store that holds `pairs`, each with this serial.
-fn holding(pairs: &[[u8; 2]], serial: u32) -> Vec<u8> {
-    let profile = read_line(LINE).expect("a line");
-    let mut bytes: Vec<u8> = pairs.iter().flat_map(|&country| image(&Profile { country, serial, ..profile })).collect();
+fn holding(profiles: &[Profile]) -> Vec<u8> {
+    let mut bytes: Vec<u8> = profiles.iter().flat_map(image).collect();
     bytes.resize(STORE, 0);
     bytes
 }
 
-fn sixteen_others() -> Vec<u8> {
-    let pairs: Vec<[u8; 2]> = (0..16).map(|at| [b'Y', b'A' + at]).collect();
-    holding(&pairs, 1)
+/// The pair at this serial and one beside it.
+fn with_pair(serial: u32) -> Vec<u8> {
+    holding(&[at(*b"XZ", b'B', 1), at(*b"XA", b'B', serial)])
 }
 
-/// Faults in the order in which they are looked at, each with its refusal and with its place: two
-/// faults of one place cannot come together.
-const FAULTS: [(u8, &str, Spoil); 19] = [
+/// Sixteen pairs, the last of which is this.
+fn full(last: Profile) -> Vec<u8> {
+    let near =
+        [at(*b"XA", b'A', 1), at(*b"XA", b'C', 1), at(*b"XA", b'D', 1), at(*b"XB", b'B', 1), at(*b"AX", b'B', 1)];
+    let others = (0..10).map(|letter| at([b'Y', b'A' + letter], b'B', 1));
+    holding(&near.into_iter().chain(others).chain([last]).collect::<Vec<Profile>>())
+}
+
+/// The part of the first round with second challenge 0: response, transformation, commitment.
+fn zero_part(package: &mut [u8]) -> &mut [u8] {
+    let (signature, line) = package.split_at(S.signature());
+    let (_, second) = challenges(&S, line, signature).expect("no short draw");
+    let ones = second.iter().take_while(|&&challenge| challenge == 1).count();
+    let start = S.salt + 2 * S.digest + ones * S.part(1);
+    &mut package[start..start + S.part(0)]
+}
+
+fn damaged(i: &mut Input, damage: fn(&mut Vec<u8>)) {
+    i.damage.push(damage);
+}
+
+type Fault = (u8, &'static str, fn(&mut Input));
+
+/// Faults in the order in which they are looked at, each with its refusal and its place: two faults
+/// of one place cannot come together. A draw of these sizes is short for no input that can be found,
+/// so 2 is not among them.
+const FAULTS: [Fault; 42] = [
     (10, "country", |i| i.country = b"Xa"),
+    (10, "country", |i| i.country = b"[A"),
+    (10, "country", |i| i.country = b""),
     (10, "country", |i| i.country = b"X"),
     (10, "country", |i| i.country = b"XAA"),
+    (10, "country", |i| i.country = b"XAXA"),
+    (10, "class", |i| i.class = 0),
+    (10, "class", |i| i.class = 64),
     (10, "class", |i| i.class = 69),
     (10, "class", |i| i.class = 66 + 256),
+    (10, "class", |i| i.class = 66 + 65_536),
     (1, "image", |i| i.image.truncate(1_023)),
     (1, "image", |i| i.image.push(0)),
+    (1, "image", |i| i.image.clear()),
     (1, "key size", |i| i.key.truncate(76)),
     (1, "key size", |i| i.key.push(0)),
-    (1, "package size", |i| i.cut = |package| package.truncate(19_193)),
-    (1, "package size", |i| i.cut = |package| package.resize(19_225, b'0')),
+    (1, "key size", |i| i.key.clear()),
+    (1, "package size", |i| i.room = Some(19_193)),
+    (1, "package size", |i| i.room = Some(19_225)),
+    (1, "package size", |i| i.room = Some(19_152)),
+    (1, "package size", |i| i.room = Some(0)),
     (3, "key", |i| i.key[76] |= 0x80),
-    (3, "rounds", |i| i.spoil = |package| package[96..672].fill(0xFF)),
-    (4, "rounds", |i| i.spoil = |package| package[19_151] ^= 1),
-    (5, "line", |i| i.line = BAD_LINE),
+    (3, "key", |i| i.key[32] |= 0x7F),
+    (3, "y", |i| damaged(i, |p| zero_part(p)[0] |= 0x7F)),
+    (3, "y", |i| damaged(i, |p| zero_part(p)[111] |= 0x80)),
+    (3, "sigma", |i| damaged(i, |p| zero_part(p)[112] |= 7)),
+    (3, "sigma", |i| damaged(i, |p| zero_part(p)[159] |= 0x80)),
+    (4, "end", |i| damaged(i, |p| p[19_151] ^= 1)),
+    (4, "claim", |i| i.claim = Claim::AnyC),
+    (4, "claim", |i| i.claim = Claim::AnyH),
+    (5, "line", |i| i.line = BAD_LINES[0]),
+    (5, "line", |i| i.line = BAD_LINES[1]),
+    (5, "line", |i| i.line = BAD_LINES[2]),
+    (5, "line", |i| i.line = BAD_LINES[3]),
     (6, "country", |i| i.country = b"XB"),
+    (6, "country", |i| i.country = b"AX"),
     (6, "class", |i| i.class = 65),
-    (7, "store", |i| i.image = holding(&[*b"XZ", *b"XA"], 12)),
-    (8, "store", |i| i.image = sixteen_others()),
+    (7, "store", |i| i.image = with_pair(12)),
+    (7, "store", |i| i.image = with_pair(13)),
+    (7, "store", |i| i.image = with_pair(u32::MAX)),
+    (7, "store", |i| i.image = full(at(*b"XA", b'B', 12))),
+    (8, "store", |i| i.image = full(at(*b"YZ", b'B', 12))),
 ];
+
+/// The package of every line and claim.
+fn packages(rng: &mut Rng, signer: &Signer) -> Vec<(&'static [u8], Claim, Vec<u8>)> {
+    let mut made = Vec::new();
+    for line in [LINE].into_iter().chain(BAD_LINES) {
+        let forger = Forger::new(&S, rng, &signer.private_seed, line).expect("no short draw");
+        for claim in CLAIMS {
+            let any = rng.bytes(S.digest);
+            let (c, h) = ((claim == Claim::AnyC).then_some(&any[..]), (claim == Claim::AnyH).then_some(&any[..]));
+            made.push((line, claim, [&forger.claim(c, h).expect("no short draw"), line].concat()));
+        }
+    }
+    made
+}
 
 #[test]
 fn pairs_of_refusals() {
-    let (mut t, mut rng) = (Tally::new("load, pairs of refusals"), Rng::new(5));
+    let (mut t, mut rng) = (Tally::new("load, pairs of refusals"), Rng::new(6));
     let signer = Signer::new(&mut rng);
-    let signed = [LINE, BAD_LINE].map(|line| (line, signer.package(&mut rng, line)));
+    let made = packages(&mut rng, &signer);
     let honest = Input {
-        image: holding(&[*b"XZ", *b"XA"], 11),
+        image: with_pair(11),
         key: signer.key.clone(),
         line: LINE,
-        spoil: |_| (),
-        cut: |_| (),
+        claim: Claim::Honest,
+        damage: Vec::new(),
+        room: None,
         country: b"XA",
         class: 66,
     };
-    let mut answer = |spoils: &[Spoil]| {
-        let mut input = honest.clone();
-        spoils.iter().for_each(|spoil| spoil(&mut input));
-        let mut package = signed.iter().find(|(line, _)| *line == input.line).expect("signed").1.clone();
-        (input.spoil)(&mut package);
-        (input.cut)(&mut package);
-        let sized = package.len() >= 19_152;
-        let (signature, line) = package.split_at(if sized { 19_152 } else { 0 });
-        let due = peer::scheme::verify(&S, &input.key, line, signature);
-        let device = Device { country: input.country, class: input.class };
-        Both::from(&input.image).load(&mut t, &input.key, &package, &device, due)
+    let mut answer = |faults: &[Fault]| {
+        let mut i = honest.clone();
+        faults.iter().for_each(|fault| fault.2(&mut i));
+        let found = made.iter().find(|(line, claim, _)| *line == i.line && *claim == i.claim);
+        let mut package = found.expect("made").2.clone();
+        i.damage.iter().for_each(|damage| damage(&mut package));
+        package.resize(i.room.unwrap_or(package.len()), b'0');
+        let (sent, device) = (Sent { key: &i.key, package: &package }, Device { country: i.country, class: i.class });
+        Both::from(&i.image).load(&mut t, sent, &device, CLEAR)
     };
     assert_eq!(answer(&[]), 0);
-    for (at, &(refusal, place, spoil)) in FAULTS.iter().enumerate() {
-        assert_eq!(answer(&[spoil]), refusal, "fault {at}");
-        for &(_, _, later) in FAULTS[at + 1..].iter().filter(|other| other.1 != place) {
+    for (at, fault) in FAULTS.into_iter().enumerate() {
+        assert_eq!(answer(&[fault]), fault.0, "fault {at}");
+        for (later, other) in FAULTS.into_iter().enumerate().skip(at + 1).filter(|(_, other)| other.1 != fault.1) {
             // the later one first: a size is changed after the content
-            assert_eq!(answer(&[later, spoil]), refusal, "fault {at} first");
+            assert_eq!(answer(&[other, fault]), fault.0, "faults {at} and {later}");
         }
     }
-    t.finish(160, &[0, 1, 3, 4, 5, 6, 7, 8, 10]);
+    t.finish(700, &[0, 1, 3, 4, 5, 6, 7, 8, 10]);
+}
+
+/// A lookup with each setting of country, class, image and room, right and wrong.
+#[test]
+fn lookups() {
+    let (mut t, good) = (Tally::new("lookup, refusals"), at(*b"XA", b'B', 12));
+    let stored = [with_pair(12), with_pair(0), holding(&[Profile { volts: 260, ..good }]), vec![0; STORE]];
+    let sizes = [0, 64, 960, 1_023, 1_025, 2_048].map(|len| vec![0; len]);
+    let images = stored.iter().zip([0, 5, 5, 9]).chain(sizes.iter().zip([1; 6]));
+    let countries: [(&[u8], u8); 7] =
+        [(b"XA", 0), (b"XB", 9), (b"", 10), (b"X", 10), (b"XAA", 10), (b"xA", 10), (b"X@", 10)];
+    for (image, of_image) in images {
+        for (country, of_country) in countries {
+            for (class, of_class) in [(66, 0), (68, 9), (64, 10), (69, 10), (66 + 256, 10), (66 + (1 << 24), 10)] {
+                for room in [72, 0, 1, 71, 73, 144] {
+                    let due = [of_country, of_class, u8::from(room != 72), of_image];
+                    let wanted = [10, 1, 9].into_iter().find(|refusal| due.contains(refusal)).unwrap_or(of_image);
+                    let answer = Both::from(image).lookup(&mut t, &Device { country, class }, room);
+                    assert_eq!(answer, wanted, "{country:?} {class} {room}");
+                }
+            }
+        }
+    }
+    t.finish(2_500, &[0, 1, 5, 9, 10]);
 }
 
 /// Serial 12 after 12, then 13; a 17th pair; and the same country with another class stays apart.
 #[test]
 fn worked_cases() {
-    let (mut t, mut rng) = (Tally::new("load, worked cases"), Rng::new(6));
+    let (mut t, mut rng) = (Tally::new("load, worked cases"), Rng::new(7));
     let (signer, mut both) = (Signer::new(&mut rng), Both::empty());
     let mut load = |both: &mut Both, profile: &Profile| {
         let package = signer.package_of(&mut rng, profile);
-        both.load(&mut t, &signer.key, &package, &device_of(profile), 0)
+        both.load(&mut t, Sent { key: &signer.key, package: &package }, &device_of(profile), CLEAR)
     };
     let twelve = read_line(LINE).expect("a line");
     let thirteen = Profile { serial: 13, ..twelve };
@@ -114,7 +218,7 @@ fn worked_cases() {
         assert_eq!(load(&mut both, &profile), wanted);
     }
     assert_eq!(both.stored(), [thirteen, other_class]);
-    let base = valid(&mut Rng::new(7));
+    let base = valid(&mut Rng::new(8));
     for at in 0..15 {
         let wanted = if at < 14 { 0 } else { 8 };
         assert_eq!(load(&mut both, &Profile { country: [b'Q', b'A' + at], ..base }), wanted);
