@@ -33,7 +33,8 @@ impl Device<'_> {
     }
 }
 
-/// At most one profile for each country and class, in no particular order.
+/// At most one profile for each country and class, in no particular order. An image that no load made
+/// may mean several for one pair, of which the first counts.
 #[derive(Clone, Debug, Default)]
 pub struct Store(Vec<Profile>);
 

@@ -39,6 +39,20 @@ fn a_seventeenth_pair_has_no_room() {
 }
 
 #[test]
+fn any_byte_but_0_marks_a_slot_and_the_first_of_a_pair_counts() {
+    let (first, second) = (profile(b"XA", 3), profile(b"XA", 9));
+    let mut bytes = Store(vec![profile(b"XB", 1), first, second]).image();
+    (bytes[0], bytes[IMAGE]) = (0, 0x80);
+    let mut store = Store::from_image(&bytes);
+    assert_eq!(store.lookup(&device(&first)), Ok(first));
+    assert_eq!(store.put(first, &device(&first)), Err(7));
+    let newer = profile(b"XA", 4);
+    assert_eq!(store.put(newer, &device(&first)), Ok(()));
+    assert_eq!(store.sorted(), [newer, second]);
+    assert_eq!(store.lookup(&device(&first)), Ok(newer));
+}
+
+#[test]
 fn another_device_is_refused() {
     let (mut store, p) = (Store::default(), profile(b"XA", 1));
     for (country, class) in [(&b"XB"[..], p.class), (b"XA", p.class ^ 3), (b"XAX", p.class)] {

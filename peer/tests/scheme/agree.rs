@@ -1,6 +1,7 @@
 //! Each entry of the scheme, called in both programs.
 
 use peer::archive;
+use peer::fast;
 use peer::harness::Tally;
 use peer::rng::Rng;
 use peer::scheme::cases::{attempt, Signed};
@@ -24,16 +25,22 @@ pub fn sign(t: &mut Tally, parts: &Parts, room: usize) -> u8 {
     t.both(room, proved, |out| scheme::sign(&S, private, master, salt, message, out), shown)
 }
 
+/// Judged by the other program's clear checker, and by its fast one, which must say the same.
 pub fn verify(t: &mut Tally, key: &[u8], message: &[u8], signature: &[u8]) -> u8 {
-    let expected = scheme::verify(&S, key, message, signature);
-    verify_is(t, key, message, signature, expected);
-    expected
+    let (clear, fast) = (scheme::verify(&S, key, message, signature), fast::scheme::verify(key, message, signature));
+    assert_eq!(fast, clear, "the fast checker beside the clear one on {key:02x?} {message:02x?} {signature:02x?}");
+    compared(t, key, message, signature, clear)
 }
 
-/// Where the answer is known without a run of the other program.
-pub fn verify_is(t: &mut Tally, key: &[u8], message: &[u8], signature: &[u8], expected: u8) {
+/// Judged by the fast checker alone, where the clear one would take too long.
+pub fn verify_fast(t: &mut Tally, key: &[u8], message: &[u8], signature: &[u8]) -> u8 {
+    compared(t, key, message, signature, fast::scheme::verify(key, message, signature))
+}
+
+fn compared(t: &mut Tally, key: &[u8], message: &[u8], signature: &[u8], expected: u8) -> u8 {
     let answer = archive::verify(key, message, signature);
     t.count(answer, expected, || format!("{key:02x?} {message:02x?} {signature:02x?}"));
+    answer
 }
 
 pub fn verify_round(t: &mut Tally, case: &RoundCase) -> u8 {

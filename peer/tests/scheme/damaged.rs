@@ -1,6 +1,6 @@
 //! Signatures and keys with one thing changed.
 
-use crate::agree::{signed, verify, verify_is, S};
+use crate::agree::{signed, verify, verify_fast, S};
 use peer::bits::{unpack, EXPONENT, VALUE};
 use peer::harness::Tally;
 use peer::rng::Rng;
@@ -31,8 +31,8 @@ fn due(signature: &[u8], at: usize, challenge: u8) -> u8 {
     }
 }
 
-/// Every byte of a signature is changed once. Salt, c and h change the challenges, and there the
-/// other program says what is due; in the rounds it says so at every seventh byte.
+/// Every byte of a signature is changed once. The fast checker judges each, the clear one salt, c and
+/// h, which change the challenges, and every seventh byte of the rounds.
 #[test]
 fn every_byte() {
     let (mut t, mut rng) = (Tally::new("verify, each byte changed"), Rng::new(0x6279_7465));
@@ -48,12 +48,9 @@ fn every_byte() {
     for (start, challenge) in parts(&made.message, &made.signature) {
         for at in start..start + S.part(challenge) {
             let signature = change(at);
-            let wanted = due(&signature, start, challenge);
-            if at % 7 == 0 {
-                assert_eq!(verify(&mut t, &made.key, &made.message, &signature), wanted, "byte {at}");
-            } else {
-                verify_is(&mut t, &made.key, &made.message, &signature, wanted);
-            }
+            let check = if at % 7 == 0 { verify } else { verify_fast };
+            let answer = check(&mut t, &made.key, &made.message, &signature);
+            assert_eq!(answer, due(&signature, start, challenge), "byte {at}");
         }
     }
     t.finish(S.signature(), &[3, 4]);
@@ -96,11 +93,8 @@ fn spare_bits_and_bad_fields() {
         }
         for (turn, bits) in faults.into_iter().enumerate() {
             let signature = with_bits(&made.signature, bits);
-            if turn % 10 == 0 {
-                assert_eq!(verify(&mut t, &made.key, &made.message, &signature), 3);
-            } else {
-                verify_is(&mut t, &made.key, &made.message, &signature, 3);
-            }
+            let check = if turn % 10 == 0 { verify } else { verify_fast };
+            assert_eq!(check(&mut t, &made.key, &made.message, &signature), 3);
         }
     }
     t.finish(78 * 12 + 2 * 126 + 54, &[3]);
