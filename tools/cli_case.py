@@ -1,0 +1,121 @@
+"""What the tests of the command-line program share: a folder for each test, and the program run in it."""
+
+import hashlib
+import os
+import shutil
+import subprocess
+import tempfile
+import unittest
+
+ROOT = os.path.dirname(os.path.dirname(os.path.abspath(__file__)))
+PROGRAM = os.environ.get("GRIDPROFILE_PROGRAM", os.path.join(ROOT, "target/cli/gridprofile"))
+ARCHIVE = os.environ.get("GRIDPROFILE_ARCHIVE", os.path.join(ROOT, "target/staticlib/libgridprofile.a"))
+PREVIEW = os.environ.get("GRIDPROFILE_PREVIEW", os.path.join(ROOT, "target/bin/preview_main"))
+
+WRONG_USAGE = 64
+FILE_TROUBLE = 74
+SIGNATURE = 19152
+STORE = 1024
+
+# The seeds that examples/README.md tells.
+PRIVATE = bytes(range(32))
+MASTER = bytes(range(100, 116))
+SALT = bytes(range(200, 232))
+
+LINE = b"GP1,XA,B,12,230,50,1150,100,800,1500,1500,100,-2500,100\n"
+LINE_C = b"GP1,XA,C,5,400,50,1100,200,850,1500,1500,100,-2500,100\n"
+# A frequency that there is not.
+BAD_LINE = LINE.replace(b",50,", b",55,")
+
+made = {}
+
+
+def line_of(country="XA", letter="B", serial=12):
+    volts = {"A": 120, "B": 230, "C": 400, "D": 690}[letter]
+    return f"GP1,{country},{letter},{serial},{volts},50,1150,100,800,1500,1500,100,-2500,100\n".encode()
+
+
+def shake(data, length):
+    return hashlib.shake_128(data).digest(length)
+
+
+class Case(unittest.TestCase):
+    """A test in a folder of its own, which it works in."""
+
+    def setUp(self):
+        self.folder = tempfile.mkdtemp(prefix="gridprofile-test-")
+        self.addCleanup(shutil.rmtree, self.folder)
+        os.chmod(self.folder, 0o755)
+
+    def path(self, name):
+        return os.path.join(self.folder, name)
+
+    def put(self, name, data):
+        with open(self.path(name), "wb") as file:
+            file.write(data)
+        return name
+
+    def get(self, name):
+        with open(self.path(name), "rb") as file:
+            return file.read()
+
+    def names(self):
+        return sorted(os.listdir(self.folder))
+
+    def run_in(self, *words, stdin=b"", **options):
+        """Runs the program in the test's folder, with what it says caught unless the options say other."""
+        options = {"input": stdin, "stdout": subprocess.PIPE, "stderr": subprocess.PIPE, **options}
+        return subprocess.run([PROGRAM, *words], cwd=self.folder, timeout=60, check=False, **options)
+
+    def done(self, *words, **options):
+        """The program does it and says nothing on standard error; what it prints."""
+        ran = self.run_in(*words, **options)
+        self.assertEqual((ran.returncode, ran.stderr), (0, b""), words)
+        return ran.stdout
+
+    def refused(self, number, *words, **options):
+        """The program refuses with this number, says so and what to do, and changes no file."""
+        before = self.look()
+        ran = self.run_in(*words, **options)
+        said = ran.stderr.decode()
+        self.assertEqual(ran.returncode, number, (words, said))
+        self.assertIn(f"refused with {number}: ", said)
+        self.assertIn("What to do: ", said)
+        self.assertEqual(ran.stdout, b"")
+        self.assertEqual(self.look(), before, words)
+        return said
+
+    def troubled(self, status, *words, **options):
+        """The program ends with 64 or 74, prints nothing but a reason, and changes no file."""
+        before = self.look()
+        ran = self.run_in(*words, **options)
+        self.assertEqual(ran.returncode, status, (words, ran.stderr))
+        self.assertTrue(ran.stderr.startswith(b"gridprofile"), ran.stderr)
+        self.assertIn(ran.stdout, (b"", None))
+        self.assertEqual(self.look(), before, words)
+        return ran.stderr.decode()
+
+    def look(self):
+        """Every name in the folder with its inode, times and content."""
+        seen = {}
+        for name in self.names():
+            state = os.lstat(self.path(name))
+            plain = os.path.isfile(self.path(name)) and not os.path.islink(self.path(name))
+            seen[name] = (state.st_ino, state.st_mode, state.st_mtime_ns, self.get(name) if plain else None)
+        return seen
+
+    def make(self, *words):
+        """What a command that writes to standard output makes of named inputs; each is made once."""
+        key = (words[0], *(self.get(word) for word in words[1:]))
+        if key not in made:
+            made[key] = self.done(*words, "-")
+        return made[key]
+
+    def key(self, private=PRIVATE):
+        """The name of a file with the public key of a private seed."""
+        return self.put("key", self.make("key", self.put("private", private)))
+
+    def package(self, line=LINE, name="package", private=PRIVATE, master=MASTER):
+        """The name of a file with a package of a line."""
+        parts = ("private", private), ("master", master), ("salt", SALT), ("line", line)
+        return self.put(name, self.make("sign", *(self.put(*part) for part in parts)))
