@@ -2,6 +2,7 @@
 Refusal 2 cannot: nobody knows seeds whose draws are short. Prints a line for each test, and then the count."""
 
 import os
+import re
 import shlex
 import subprocess
 import sys
@@ -351,6 +352,24 @@ def readme_line(start):
     if len(found) != 1:
         raise AssertionError(f"README has {len(found)} lines that begin with {start}")
     return found[0]
+
+
+class Readme(Case):
+    def test_commands(self):
+        """The block of commands, as a reader pastes it; what it ends with is the example's line."""
+        with open(os.path.join(ROOT, "README.md"), encoding="utf-8") as file:
+            block = re.search(r"^    PATH=.*\n(?:    .*\n)+", file.read(), re.M).group()
+        os.makedirs(self.path("target/cli"))
+        os.symlink(PROGRAM, self.path("target/cli/gridprofile"))
+        os.symlink(os.path.join(ROOT, "examples"), self.path("examples"))
+        ran = subprocess.run(["sh", "-e"], input=block.encode(), cwd=self.folder, capture_output=True, check=False,
+                             env={**os.environ, "TMPDIR": self.folder})
+        self.assertEqual((ran.returncode, ran.stdout, ran.stderr), (0, LINE, b""))
+
+    def test_every_command_is_in_the_table(self):
+        with open(os.path.join(ROOT, "README.md"), encoding="utf-8") as file:
+            named = re.findall(r"^\| `([a-z]+)(?: [A-Z\[\] ]+)?` \|", file.read(), re.M)
+        self.assertEqual(sorted(named), sorted(Usage.COUNTS))
 
 
 class Firmware(Case):

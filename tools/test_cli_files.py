@@ -1,19 +1,15 @@
 """The command-line program and what surrounds it: files, streams, permissions, secrets, runs at the same time."""
 
-import array
-import fcntl
 import os
 import resource
 import shutil
 import stat
 import subprocess
-import termios
 import time
 
 from cli_case import (FILE_TROUBLE, LINE, MASTER, PRIVATE, PROGRAM, SALT, STORE, WRONG_USAGE, Case, line_of,
                       shake)
 
-F_SETPIPE_SZ = 1031
 NOBODY = 65534
 
 
@@ -196,15 +192,19 @@ class Outputs(Case):
         os.mkdir(self.path("shut"))
         os.chmod(self.path("shut"), 0o555)
         cases = list(self.writers("shut/out"))
-        self.put("locked", bytes(STORE))
-        os.chmod(self.path("locked"), 0o444)
-        cases.extend(self.writers("locked"))
+        os.mkdir(self.path("open"))
+        self.put("open/locked", bytes(STORE))
+        os.chmod(self.path("open"), 0o777)
+        os.chmod(self.path("open/locked"), 0o444)
+        cases.extend(self.writers("open/locked"))
         for words in cases:
             before = self.look()
             ran = subprocess.run([program, *words], cwd=self.folder, capture_output=True, check=False, **unprivileged())
             self.assertEqual((ran.returncode, ran.stdout), (FILE_TROUBLE, b""), words)
             self.assertIn(b"Permission denied", ran.stderr)
-            self.assertEqual((self.look(), os.listdir(self.path("shut"))), (before, []))
+            self.assertEqual(self.look(), before)
+            self.assertEqual((os.listdir(self.path("shut")), os.listdir(self.path("open"))), ([], ["locked"]))
+            self.assertEqual(self.get("open/locked"), bytes(STORE))
 
     def test_permissions(self):
         for mask, wanted in ((0o022, 0o644), (0, 0o644), (0o077, 0o600)):
@@ -251,11 +251,28 @@ def wait_for(true):
         time.sleep(0.01)
 
 
-def waiting(pipe):
-    """Bytes that wait in a pipe."""
-    count = array.array("i", [0])
-    fcntl.ioctl(pipe, termios.FIONREAD, count)
-    return count[0]
+def call_of(process):
+    """The system call that a process waits in, and its first argument."""
+    with open(f"/proc/{process.pid}/syscall", encoding="ascii") as file:
+        return file.read().split()[:2]
+
+
+# read(0) and write(1) on x86-64.
+READS_INPUT = ["0", "0x0"]
+WRITES_OUTPUT = ["1", "0x1"]
+
+
+def full_pipe():
+    """A pipe that takes no more, and how much is in it."""
+    reading, writing = os.pipe()
+    os.set_blocking(writing, False)
+    held = 0
+    try:
+        while True:
+            held += os.write(writing, bytes(4096))
+    except BlockingIOError:
+        os.set_blocking(writing, True)
+    return reading, writing, held
 
 
 def exponents(block):
@@ -270,38 +287,55 @@ HIDDEN = shake(b"a private seed", 32), shake(b"a master seed", 16)
 
 
 class Secrets(Case):
-    def secrets(self, package):
-        """What must not be left in memory: both seeds, and what only they give."""
+    """The program stands still before its first byte of output, at a pipe that is full, and its memory is searched."""
+
+    def start(self, *words):
+        reading, writing, self.held = full_pipe()
+        self.out = os.fdopen(reading, "rb")
+        self.process = subprocess.Popen([PROGRAM, *words], cwd=self.folder, stdin=subprocess.PIPE, stdout=writing)
+        os.close(writing)
+        for last in (self.out.close, self.process.stdin.close, self.process.wait, self.process.kill):
+            self.addCleanup(last)
+
+    def memory_at(self, call):
+        wait_for(lambda: call_of(self.process) == call)
+        return memory(self.process)
+
+    def written(self):
+        return self.out.read()[self.held:]
+
+    def key_secrets(self):
+        """What only the private seed gives."""
         secret_seed = shake(b"\x0c" + HIDDEN[0], 64)[:32]
+        return [HIDDEN[0], secret_seed, exponents(shake(b"\x0a" + secret_seed, 96))[:64]]
+
+    def round_secrets(self, package):
+        """What only the master seed gives: the seeds of the rounds that the signature does not show."""
         rounds = shake(b"\x09" + HIDDEN[1] + SALT, 2608)
         unseen = [rounds[at:at + 16] for at in range(0, 2608, 16) if rounds[at:at + 16] not in package]
         self.assertEqual(len(unseen), 163 - 85)
-        return [*HIDDEN, secret_seed, exponents(shake(b"\x0a" + secret_seed, 96))[:64], *unseen]
+        return [HIDDEN[1], *unseen]
 
-    def stand_still_twice(self):
-        """What is in memory when sign has read its seeds and waits for the line, and when all is done and it waits
-        at a pipe that is full; and what it writes in the end."""
-        reading, writing = os.pipe()
-        fcntl.fcntl(writing, F_SETPIPE_SZ, 4096)
-        words = [PROGRAM, "sign", "private", "master", "salt", "-", "-"]
-        with subprocess.Popen(words, cwd=self.folder, stdin=subprocess.PIPE, stdout=writing) as process:
-            os.close(writing)
-            wait_for(lambda: SALT in memory(process))
-            before = memory(process)
-            process.stdin.write(LINE)
-            process.stdin.close()
-            wait_for(lambda: waiting(reading) >= 4096)
-            after = memory(process)
-            with os.fdopen(reading, "rb") as rest:
-                return before, after, rest.read()
+    def test_key_is_wiped_before_the_output(self):
+        key = self.get(self.key(HIDDEN[0]))
+        self.start("key", "private", "-")
+        after = self.memory_at(WRITES_OUTPUT)
+        self.assertEqual(self.written(), key)
+        self.assertIn(key, after)
+        self.assertEqual([secret.hex() for secret in self.key_secrets() if secret in after], [])
 
-    def test_wiped_from_memory_before_the_output(self):
+    def test_sign_is_wiped_before_the_output(self):
         package = self.get(self.package(private=HIDDEN[0], master=HIDDEN[1]))
-        before, after, written = self.stand_still_twice()
-        self.assertEqual(written, package)
+        self.start("sign", "private", "master", "salt", "-", "-")
+        before = self.memory_at(READS_INPUT)
+        self.process.stdin.write(LINE)
+        self.process.stdin.close()
+        after = self.memory_at(WRITES_OUTPUT)
+        self.assertEqual(self.written(), package)
         self.assertEqual([before.count(seed) for seed in HIDDEN], [1, 1])
-        self.assertIn(SALT, after)
-        self.assertEqual([secret.hex() for secret in self.secrets(package) if secret in after], [])
+        self.assertIn(package, after)
+        secrets = self.key_secrets() + self.round_secrets(package)
+        self.assertEqual([secret.hex() for secret in secrets if secret in after], [])
 
     def test_never_printed(self):
         self.key(HIDDEN[0]), self.package(private=HIDDEN[0], master=HIDDEN[1])

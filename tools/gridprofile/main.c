@@ -1,8 +1,6 @@
 /* gridprofile: keys, packages and stores of signed grid profiles, on the command line. */
 #include "program.h"
 
-#include <errno.h>
-#include <fcntl.h>
 #include <signal.h>
 #include <string.h>
 
@@ -24,15 +22,6 @@ static const struct command *find_command(const char *name)
         if (strcmp(commands[at].name, name) == 0)
             return &commands[at];
     return NULL;
-}
-
-/* A standard stream that the caller closed would give its number to the next file opened, and
- * messages would go into that file. What takes its place here fails when it is used. */
-static void hold_streams(void)
-{
-    for (int stream = 0; stream < 3; stream++)
-        if (fcntl(stream, F_GETFD) < 0 && errno == EBADF)
-            (void)open("/dev/null", stream == 0 ? O_WRONLY : O_RDONLY);
 }
 
 /* A write that fails is reported, and what was begun is removed, so these must not end us. */
@@ -70,7 +59,6 @@ static int run(int count, char **words)
 int main(int count, char **words)
 {
     int status, written;
-    hold_streams();
     hold_signals();
     status = run(count, words);
     written = finish_text();
