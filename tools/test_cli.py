@@ -263,7 +263,7 @@ class Show(Case):
 
     def test_other_sizes_are_1(self):
         for size in (0, 41, 73, 1023, 1025, 19193, 19225):
-            self.refused(1, "show", self.put("bad", bytes(size)))
+            self.assertIn("bad has the size of no line", self.refused(1, "show", self.put("bad", bytes(size))))
 
     def test_what_breaks_a_rule_is_5(self):
         package = self.get(self.package())[:SIGNATURE] + BAD_LINE

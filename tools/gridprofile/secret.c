@@ -3,7 +3,8 @@
 
 #include <sys/resource.h>
 
-/* More than any function of the library uses: signing, the greatest, needs under 96 KiB. */
+/* More than any function of the library uses: signing, the greatest, takes under 96 KiB, which
+ * `make bench` measures. */
 #define STACK_BYTES (256 * 1024)
 
 /* A crash must not write the seeds to a file. */
