@@ -36,7 +36,8 @@ use Rattle.image.specs.Entries.{
   LooksUp,
 }
 
-number-answer : {A : Type 0} (cs : List Check) (a : A) → numberIn (answer cs a) ≡ firstRefusal cs
+-- the number of what a list of checks answers
+pub number-answer : {A : Type 0} (cs : List Check) (a : A) → numberIn (answer cs a) ≡ firstRefusal cs
 number-answer [] a = refl
 number-answer (r unless true ∷ cs) a = number-answer cs a
 number-answer (r unless false ∷ cs) a = refl
@@ -91,7 +92,7 @@ module _ (p : Profile) (old : List ℕ) (before : ℕ) where
   put-line-broken {new} w = record { answers = put-answers BadProfile new w; size = refl }
 
 -- the same answer under other checks that refuse alike
-answers-as : {cs ds : List Check} {made old lent : List ℕ} {k : ℕ} → firstRefusal cs ≡ firstRefusal ds → Answers cs made old k lent → Answers ds made old k lent
+pub answers-as : {cs ds : List Check} {made old lent : List ℕ} {k : ℕ} → firstRefusal cs ≡ firstRefusal ds → Answers cs made old k lent → Answers ds made old k lent
 answers-as e a = record { answer = a .answer ∙ e; content = a .content }
 
 module _ (image old : List ℕ) (before : ℕ) where

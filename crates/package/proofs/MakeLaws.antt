@@ -24,6 +24,7 @@ use Rattle.profile.proofs.Theorems.{line-lengths-hold, writes-read}
 use Rattle.scheme.specs.Sign.{signatureSize, signChecks, signature}
 use Rattle.scheme.proofs.Accepted.{length-signature}
 use Rattle.keygen.proofs.Parts.{put-next}
+use Rattle.image.proofs.EntryLaws.{number-answer, answers-as}
 use Rattle.package.specs.Package.{packageMax, packageOf, makeSizes, makeChecks, makeLineChecks}
 use Rattle.package.specs.Entries.{Room, Seals, MakesPackage, MakesFromLine}
 
@@ -38,13 +39,9 @@ kept line old before k some e =
     }
 
 -- the same answer under other checks that refuse alike
-answers-as : {cs ds : List Check} {line old lent : List ℕ} {before k after : ℕ} → firstRefusal cs ≡ firstRefusal ds
+front-as : {cs ds : List Check} {line old lent : List ℕ} {before k after : ℕ} → firstRefusal cs ≡ firstRefusal ds
     → AnswersFront cs line old before k lent after → AnswersFront ds line old before k lent after
-answers-as e a =
-    record {
-      answers = record { answer = a .answers .answer ∙ e; content = a .answers .content };
-      size = a .size;
-    }
+front-as {cs} {ds} e a = record { answers = answers-as {cs = cs} {ds = ds} e (a .answers); size = a .size }
 
 -- tests that refuse decide
 decides : (xs ys : List Check) (k : ℕ) → (k ≡ 0 → ⊥) → k ≡ firstRefusal xs → k ≡ firstRefusal (xs ++ ys)
@@ -116,18 +113,16 @@ module _ (p : Params) (private master salt line old : List ℕ) (n : ℕ) (sized
               size = sym package-long;
             }
 
+-- a front that is within some bytes
+pub front-length : (n : ℕ) (bytes : List ℕ) → n ≤ length bytes → n ≡ length (take n bytes)
+front-length n bytes within = sym (length-take-le n bytes within)
+
 -- sizes that are right: there is room for the longest package
 room-lent : (p : Params) (private master salt : List ℕ) (lent : ℕ) → firstRefusal (makeSizes p private master salt lent) ≡ 0 → lent ≡ packageMax p
 room-lent p private master salt lent ok =
     eqb-true lent (packageMax p) (holds-test _ (passed (makeSizes p private master salt lent) ok .1 .1 .1 .0))
 
 -- ---- from a profile
-
--- the number of what a list of checks answers
-number-answer : {A : Type 0} (cs : List Check) (a : A) → numberIn (answer cs a) ≡ firstRefusal cs
-number-answer [] a = refl
-number-answer (r unless true ∷ cs) a = number-answer cs a
-number-answer (r unless false ∷ cs) a = refl
 
 never-1 : (b : Bool) → 1 ≡ pick {A = ℕ} b 0 5 → ⊥
 never-1 true e = let z : _≡_ {A = ℕ} 1 0 = e in omega arith
@@ -162,7 +157,7 @@ module _ (profile : Profile) (new : List ℕ) where
     obeyed : valid classes profile ≡ true
     obeyed = holds-test _ (found .0 .1 .0)
 
-    written-short : n ≤ longest
+    pub written-short : n ≤ longest
     written-short = omega (arith, line-lengths-hold classes profile (found .0 .1 .0) .1, found .1)
 
     held : new ≡ lineOf profile ++ drop (length (lineOf profile)) blank
@@ -172,13 +167,6 @@ module _ (profile : Profile) (new : List ℕ) where
     written-line =
         ap (λ (bytes : List ℕ). take n bytes) held
         ∙ take-at (lineOf profile) (drop (length (lineOf profile)) blank) n (found .1)
-
-    pub written-within : n ≤ length new
-    written-within =
-        omega (arith, ap (λ (bytes : List ℕ). length bytes) held, length-append (lineOf profile) (drop (length (lineOf profile)) blank), found .1)
-
-    pub written-length : n ≡ length (take n new)
-    written-length = sym (length-take-le n new written-within)
 
 module _ (p : Params) (private master salt : List ℕ) (profile : Profile) (old : List ℕ) (before : ℕ) where
   -- sizes, rules and signing, in the order in which they refuse
@@ -197,9 +185,9 @@ module _ (p : Params) (private master salt : List ℕ) (profile : Profile) (old 
       kept (packageOf p private master salt (lineOf profile)) old before k some (by-first sizes rules signing k some e)
 
   module _ (sized : ℕ) (tested : sized ≡ firstRefusal sizes) (none : sized ≡ 0) where
-    pub written-room : (new : List ℕ) (n : ℕ) → Writes classes profile blank (Written n) new → Room p (take n new) old
-    written-room new n written =
-        (room-lent p private master salt (length old) (sym tested ∙ none), omega (arith, written-length profile new n written, written-short profile new n written))
+    pub front-room : (n : ℕ) (new : List ℕ) → length new ≡ longest → n ≤ length new → Room p (take n new) old
+    front-room n new long within =
+        (room-lent p private master salt (length old) (sym tested ∙ none), omega (arith, front-length n new within, long))
 
     pub make-broken : (new : List ℕ) → Writes classes profile blank BadProfile new → MakesPackage p private master salt profile old before 5 old before
     unfolding makeChecks
@@ -211,7 +199,7 @@ module _ (p : Params) (private master salt : List ℕ) (profile : Profile) (old 
         → Seals p private master salt (take n new) old before k out after → MakesPackage p private master salt profile old before k out after
     unfolding makeChecks
     make-sealed new n written {k} {after} {out} sealed =
-        answers-as {cs = signing} {ds = sizes ++ rules ++ signing}
+        front-as {cs = signing} {ds = sizes ++ rules ++ signing}
         (by-third sizes rules signing (sym tested ∙ none) (holds bad-line (valid classes profile) [] (obeyed profile new n written)))
         (subst (λ (l : List ℕ). Seals p private master salt l old before k out after) (written-line profile new n written) sealed)
 
@@ -255,6 +243,6 @@ module _ (p : Params) (private master salt line old : List ℕ) (before : ℕ) w
           → Seals p private master salt line old before k new after → MakesFromLine p private master salt line old before k new after
       unfolding makeLineChecks
       make-line-sealed sealed =
-          answers-as {cs = line-signing} {ds = line-sizes ++ reading ++ line-signing}
+          front-as {cs = line-signing} {ds = line-sizes ++ reading ++ line-signing}
           (by-third line-sizes reading line-signing (sym tested ∙ none) (rw (← read) refl))
           sealed

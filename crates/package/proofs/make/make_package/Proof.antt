@@ -1,11 +1,12 @@
 -- `make_package`: sizes, then the line in local bytes, then that line is sealed. Assumes nothing.
 use mathlib.Core.Path.{subst}
+use native.Mathlib.Omega.{arith}
 use borrow.Author.Needs.{needs}
 use Rattle.profile.specs.declared.WriteLine.{WriteLine}
 use Rattle.profile.specs.declared.WriteLine.the-variants.{Written}
 use Rattle.profile.specs.Rules.{classes}
 use Rattle.profile.specs.Line.{Writes}
-use Rattle.package.proofs.MakeLaws.{blank, never-small, written-within, written-length, written-room, make-sizes, make-broken, make-sealed}
+use Rattle.package.proofs.MakeLaws.{front-length, blank, never-small, written-short, front-room, make-sizes, make-broken, make-sealed}
 use Rattle.package.proofs.make.make_package.Statement.{statement}
 use Rattle.package.proofs.make.make_package.Tie as tie
 
@@ -39,27 +40,22 @@ enum-known-n c = search needs
 array-share-prefix-line : tie.Need-array-share-prefix-line
 array-share-prefix-line c =
     let a = c .before .before .before .before .before .before .before .before .before .before .before .before .before .before .before .before .args in
-    let new = c .before .before .before .before .write-line .last .1 .0 in
+    let call = c .before .before .before .before .write-line in
     let node = c .before in
-    written-within (a .profile) new (node .n .given .0 .0) (written node)
+    omega (arith, call .kept .1 .0, written-short (a .profile) (call .last .1 .0) (node .n .given .0 .0) (written node))
 
 slice-aggregate-seal : tie.Need-slice-aggregate-seal
-slice-aggregate-seal c =
-    let a = c .before .before .before .before .before .before .before .before .before .before .before .before .before .before .before .before .before .args in
-    let new = c .before .before .before .before .before .write-line .last .1 .0 in
-    let node = c .before .before in
-    written-length (a .profile) new (node .n .given .0 .0) (written node)
+slice-aggregate-seal c = front-length _ (c .before .before .before .before .before .write-line .last .1 .0) (array-share-prefix-line (c .before))
 
 seal-requires : tie.Need-seal-requires
 seal-requires c κs =
     let start = c .before .before .before .before .before .before .before .before .before .before .before .before .before .before .before .before .before .before .before .before .before .before .before in
     let a = start .args in
     let sized = c .before .before .before .before .before .before .before .before .before .before .before .before .before .before .check-make in
-    let new = c .before .before .before .before .before .before .before .before .before .before .before .write-line .last .1 .0 in
-    let node = c .before .before .before .before .before .before .before .before in (
+    let call = c .before .before .before .before .before .before .before .before .before .before .before .write-line in (
       start .pre,
-      written-room (a .p) (a .private .now) (a .master .now) (a .salt .now) (a .profile) (a .out .now) (a .length .now)
-          (sized .result) (sized .ensures) (c .before .before .before .before .before .before .before .before .before .before .before .before .before .if1 .left) new (node .n .given .0 .0) (written node),
+      front-room (a .p) (a .private .now) (a .master .now) (a .salt .now) (a .profile) (a .out .now) (a .length .now)
+          (sized .result) (sized .ensures) (c .before .before .before .before .before .before .before .before .before .before .before .before .before .if1 .left) _ (call .last .1 .0) (call .kept .1 .0) (array-share-prefix-line (c .before .before .before .before .before .before .before)),
     )
 
 enum-told : tie.Need-enum-told
