@@ -1,5 +1,9 @@
-// Duty 3 carried to the running code: thin functions over the entries, whose contracts say it of what they return.
-ghost use Rattle.duty.specs.Carried.{SignsAndVerifies, ExaminesFour};
+// Theorems carried to the running code: thin functions over the entries, whose contracts say of what they return that what
+// is signed verifies and that four replies open the key (duty 3), and that a made package loads.
+use profile::Profile;
+use store::Device;
+use store::Store;
+ghost use Rattle.duty.specs.Carried.{SignsAndVerifies, ExaminesFour, MakesAndLoads};
 
 // What making the key, signing and verifying answered.
 pub struct Signed {
@@ -14,6 +18,14 @@ pub struct Examined {
     pub b: u8,
     pub c: u8,
     pub d: u8,
+}
+
+// What making the key, making the package and loading it answered, and the store after.
+pub struct Loaded {
+    pub key: u8,
+    pub make: u8,
+    pub load: u8,
+    pub store: Store,
 }
 
 // First half: where signing answers 0, the verifier accepts what it wrote, under the key that make_key wrote.
@@ -69,5 +81,33 @@ pub fn examine_four(
         b: b,
         c: c,
         d: d,
+    }
+}
+
+// A package is made of a profile and loaded under the key that make_key wrote.
+pub fn make_and_load(
+    private: &[u8],
+    master: &[u8],
+    salt: &[u8],
+    profile: Profile,
+    store: Store,
+    device: Device,
+    out: &mut [u8],
+) -> Loaded
+    ensures { λ r.
+        ⌜ MakesAndLoads (now (private .entry)) (now (master .entry)) (now (salt .entry)) profile device store
+        (now (out .entry)) r (now (out .exit)) ⌝ }
+{
+    let mut public = [0u8; 77];
+    let mut length: usize = 0;
+    let key = category1::make_key(private, &mut public);
+    let make = category1::make_package(private, master, salt, profile, out, &mut length);
+    let loaded = category1::load(store, &public, &out[..length], device);
+    let after = loaded.store;
+    Loaded {
+        key: key,
+        make: make,
+        load: loaded.answer,
+        store: after,
     }
 }
