@@ -11,9 +11,8 @@ test:
 
 bench:
 	rt staticlib gridprofile
-	cd peer && cargo run --release --offline --bin bench
-	gcc -std=c11 -D_GNU_SOURCE -O2 -Wall -Wextra -Werror -pedantic -I include peer/c/stack.c target/staticlib/libgridprofile.a -o target/stack -lpthread
-	target/stack
+	gcc -std=c11 -D_GNU_SOURCE -O2 -Wall -Wextra -Werror -pedantic -I include peer/c/stack.c $(ARCHIVE) -o target/stack -lpthread
+	cd peer && cargo run --release --offline --bin bench -- ../target/stack
 
 demo: cli
 	@tools/demo $(PROGRAM)

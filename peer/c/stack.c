@@ -1,5 +1,6 @@
 /* How much stack the entries use: each runs in a thread on a stack that was filled with a pattern, and the bytes that
- * no longer hold it are counted. A thread that does nothing gives the part that is not the library's. */
+ * no longer hold it are counted. A thread that does nothing gives the part that is not the library's. A line for each
+ * entry: its name and the bytes. */
 #include <pthread.h>
 #include <stdint.h>
 #include <stdio.h>
@@ -59,8 +60,8 @@ static size_t used(void *(*job)(void *))
 int main(void)
 {
     size_t base = used(nothing);
-    printf("stack of make_key: %zu bytes\n", used(make_key) - base);
-    printf("stack of sign: %zu bytes\n", used(sign) - base);
-    printf("stack of verify: %zu bytes\n", used(verify) - base);
+    printf("make_key %zu\n", used(make_key) - base);
+    printf("sign %zu\n", used(sign) - base);
+    printf("verify %zu\n", used(verify) - base);
     return 0;
 }

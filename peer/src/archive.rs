@@ -1,15 +1,14 @@
-//! The proved library, called as C calls it: a slice is a pointer and a length.
+//! The proved library over slices, called as C calls it.
+
+pub mod c;
 
 use crate::scheme::RoundCase;
 
 macro_rules! entries {
     ($($name:ident is $symbol:ident;)*) => {
-        extern "C" {
-            $(fn $symbol(input: *const u8, input_len: usize, out: *mut u8, out_len: usize) -> u8;)*
-        }
         $(pub fn $name(input: &[u8], out: &mut [u8]) -> u8 {
             // SAFETY: both slices are alive for the call and do not overlap.
-            unsafe { $symbol(input.as_ptr(), input.len(), out.as_mut_ptr(), out.len()) }
+            unsafe { c::$symbol(input.as_ptr(), input.len(), out.as_mut_ptr(), out.len()) }
         })*
     };
 }
@@ -24,75 +23,25 @@ entries! {
     sample_mask_values is gridprofile_sample_mask_values;
     sample_first_challenges is gridprofile_sample_first_challenges;
     sample_second_challenge is gridprofile_sample_second_challenge;
-}
-
-extern "C" {
-    fn gridprofile_shake128(input: *const u8, input_len: usize, out: *mut u8, out_len: usize);
+    make_key is gridprofile_make_key;
+    read_line is gridprofile_read_line;
 }
 
 pub fn shake128(input: &[u8], out: &mut [u8]) {
     // SAFETY: as above.
-    unsafe { gridprofile_shake128(input.as_ptr(), input.len(), out.as_mut_ptr(), out.len()) }
-}
-
-type Pointer = *const u8;
-
-extern "C" {
-    fn gridprofile_make_key(private_seed: Pointer, private_seed_len: usize, key: *mut u8, key_len: usize) -> u8;
-    fn gridprofile_sign(
-        private_seed: Pointer,
-        private_seed_len: usize,
-        master_seed: Pointer,
-        master_seed_len: usize,
-        salt: Pointer,
-        salt_len: usize,
-        message: Pointer,
-        message_len: usize,
-        signature: *mut u8,
-        signature_len: usize,
-    ) -> u8;
-    fn gridprofile_verify(
-        key: Pointer,
-        key_len: usize,
-        message: Pointer,
-        message_len: usize,
-        signature: Pointer,
-        signature_len: usize,
-    ) -> u8;
-    fn gridprofile_verify_round(
-        key: Pointer,
-        key_len: usize,
-        salt: Pointer,
-        salt_len: usize,
-        round: u32,
-        commitment_0: Pointer,
-        commitment_0_len: usize,
-        commitment_1: Pointer,
-        commitment_1_len: usize,
-        first_challenge: u32,
-        response: Pointer,
-        response_len: usize,
-        second_challenge: u32,
-        reply: Pointer,
-        reply_len: usize,
-    ) -> u8;
-}
-
-pub fn make_key(private_seed: &[u8], key: &mut [u8]) -> u8 {
-    // SAFETY: as above.
-    unsafe { gridprofile_make_key(private_seed.as_ptr(), private_seed.len(), key.as_mut_ptr(), key.len()) }
+    unsafe { c::gridprofile_shake128(input.as_ptr(), input.len(), out.as_mut_ptr(), out.len()) }
 }
 
 pub fn sign(private_seed: &[u8], master_seed: &[u8], salt: &[u8], message: &[u8], signature: &mut [u8]) -> u8 {
     let [(a, b), (c, d), (e, f), (g, h)] = [private_seed, master_seed, salt, message].map(|s| (s.as_ptr(), s.len()));
     // SAFETY: as above.
-    unsafe { gridprofile_sign(a, b, c, d, e, f, g, h, signature.as_mut_ptr(), signature.len()) }
+    unsafe { c::gridprofile_sign(a, b, c, d, e, f, g, h, signature.as_mut_ptr(), signature.len()) }
 }
 
 pub fn verify(key: &[u8], message: &[u8], signature: &[u8]) -> u8 {
     let [(a, b), (c, d), (e, f)] = [key, message, signature].map(|s| (s.as_ptr(), s.len()));
     // SAFETY: as above.
-    unsafe { gridprofile_verify(a, b, c, d, e, f) }
+    unsafe { c::gridprofile_verify(a, b, c, d, e, f) }
 }
 
 pub fn verify_round(case: &RoundCase) -> u8 {
@@ -100,7 +49,7 @@ pub fn verify_round(case: &RoundCase) -> u8 {
     let (c0, c1, h) = (&case.commitment_0, &case.commitment_1, &case.response);
     // SAFETY: as above.
     unsafe {
-        gridprofile_verify_round(
+        c::gridprofile_verify_round(
             key.as_ptr(),
             key.len(),
             salt.as_ptr(),
@@ -118,4 +67,20 @@ pub fn verify_round(case: &RoundCase) -> u8 {
             reply.len(),
         )
     }
+}
+
+/// The answer, and the length: what it was before, where the entry did not write it.
+pub fn write_line(profile: &[u8], line: &mut [u8], mut length: usize) -> (u8, usize) {
+    let ((a, b), (c, d)) = ((profile.as_ptr(), profile.len()), (line.as_mut_ptr(), line.len()));
+    // SAFETY: as above; the length is a variable of its own.
+    let answer = unsafe { c::gridprofile_write_line(a, b, c, d, &mut length) };
+    (answer, length)
+}
+
+/// Answer and length, as `write_line` gives them.
+pub fn preview(input: &[u8], out: &mut [u8], mut length: usize) -> (u8, usize) {
+    let ((a, b), (c, d)) = ((input.as_ptr(), input.len()), (out.as_mut_ptr(), out.len()));
+    // SAFETY: as above.
+    let answer = unsafe { c::gridprofile_preview(a, b, c, d, &mut length) };
+    (answer, length)
 }

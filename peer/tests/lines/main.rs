@@ -1,13 +1,11 @@
 //! Lines read and written through C, beside the independent program: the answer, the whole image,
 //! the whole buffer and the length.
 
-mod archive;
-
 use peer::harness::{Comparison, Tally, LEAST};
 use peer::line::cases::{any_image, fields, joined, texts, valid};
 use peer::line::{image, LONGEST};
 use peer::rng::Rng;
-use peer::{entries, line};
+use peer::{archive, entries, line};
 
 const IMAGE: usize = line::IMAGE;
 

@@ -1,9 +1,9 @@
 //! The preview through C and as a program, beside the independent one. The order of the rows is
 //! open, so listings are compared with their rows sorted.
 
-mod archive;
 mod program;
 
+use peer::archive;
 use peer::harness::Tally;
 use peer::preview::cases::{any, named};
 use peer::preview::{in_order, preview, LISTING};

@@ -1,0 +1,115 @@
+//! Rows of the small entries: SHAKE128, samples, packing.
+
+use crate::measure::least;
+use crate::table::{print, Row};
+use peer::harness::Function;
+use peer::keccak::SHAKE128_RATE;
+use peer::openssl::Shake128;
+use peer::rng::Rng;
+use peer::sizes::CATEGORY_1;
+use peer::{archive, fast};
+use std::hint::black_box;
+
+/// Different inputs of a row, all timed at once: one call is too short for the clock.
+const INPUTS: usize = 32;
+
+fn many(mut make: impl FnMut() -> Vec<u8>) -> Vec<Vec<u8>> {
+    (0..INPUTS).map(|_| make()).collect()
+}
+
+/// One entry over an input and a buffer of `out_len` bytes.
+fn entry(name: &str, inputs: &[Vec<u8>], out_len: usize, proved: Function, plain: Function) {
+    let (mut out, mut other_out) = (vec![0; out_len], vec![0; out_len]);
+    for input in inputs {
+        assert_eq!((proved(input, &mut out), plain(input, &mut other_out)), (0, 0), "{name}");
+        assert_eq!(out, other_out, "{name}");
+    }
+    let call = |function: Function, input: &[u8], out: &mut [u8]| {
+        black_box(function(input, black_box(out)));
+    };
+    let mut library = |at: usize| call(proved, &inputs[at], &mut out);
+    let mut other = |at: usize| call(plain, &inputs[at], &mut other_out);
+    let times = least(INPUTS, INPUTS, &mut [&mut library, &mut other]);
+    print(&Row { name: name.to_string(), library: times[0], plain: times[1], ..Row::default() });
+}
+
+/// Lengths in and out: a round's draw, a commitment's size, the matrix, messages.
+const HASHES: [(usize, usize); 6] = [(51, 96), (128, 32), (33, 3500), (1_024, 32), (16_384, 32), (65_536, 32)];
+
+pub fn hashing(rng: &mut Rng) {
+    let mut openssl = Shake128::load();
+    if openssl.is_none() {
+        println!("no OpenSSL 3 was found: its column stays empty");
+    }
+    for (len, out_len) in HASHES {
+        hash(rng, &mut openssl, len, out_len);
+    }
+}
+
+fn hash(rng: &mut Rng, openssl: &mut Option<Shake128>, len: usize, out_len: usize) {
+    let name = format!("SHAKE128, {len} to {out_len} bytes");
+    let inputs = many(|| rng.bytes(len));
+    let mut outs = [(); 3].map(|()| vec![0; out_len]);
+    let [out, plain_out, openssl_out] = &mut outs;
+    let mut library = |at: usize| archive::shake128(&inputs[at], black_box(out));
+    let mut plain = |at: usize| fast::keccak::shake::<SHAKE128_RATE>(&[&inputs[at]], black_box(plain_out));
+    let times = match openssl {
+        Some(openssl) => {
+            let mut other = |at: usize| openssl.hash(&inputs[at], black_box(openssl_out));
+            least(INPUTS, INPUTS, &mut [&mut library, &mut plain, &mut other])
+        }
+        None => least(INPUTS, INPUTS, &mut [&mut library, &mut plain]),
+    };
+    assert_eq!(outs[0], outs[1], "{name}");
+    assert!(openssl.is_none() || outs[0] == outs[2], "{name}");
+    print(&Row { name, library: times[0], plain: times[1], openssl: times.get(2).copied(), ..Row::default() });
+}
+
+pub fn sampling(rng: &mut Rng) {
+    use fast::sampling as plain;
+    let s = CATEGORY_1;
+    let jobs: [(&str, usize, usize, Function, Function); 5] = [
+        ("sample_matrix", s.matrix_block, s.matrix(), archive::sample_matrix, plain::sample_matrix),
+        ("sample_exponents", s.exponents_block, s.n, archive::sample_exponents, plain::sample_exponents),
+        ("sample_mask_values", s.mask_values_block, s.n, archive::sample_mask_values, plain::sample_mask_values),
+        (
+            "sample_first_challenges",
+            s.first_challenges_block,
+            s.t,
+            archive::sample_first_challenges,
+            plain::sample_first_challenges,
+        ),
+        (
+            "sample_second_challenge",
+            s.second_challenge_block,
+            s.t,
+            archive::sample_second_challenge,
+            plain::sample_second_challenge,
+        ),
+    ];
+    for (name, block, count, proved, plain) in jobs {
+        entry(name, &many(|| rng.bytes(block)), count, proved, plain);
+    }
+}
+
+fn packed(numbers: &[Vec<u8>], len: usize, pack: Function) -> Vec<Vec<u8>> {
+    let one = |x: &Vec<u8>| {
+        let mut out = vec![0; len];
+        assert_eq!(pack(x, &mut out), 0);
+        out
+    };
+    numbers.iter().map(one).collect()
+}
+
+pub fn packing(rng: &mut Rng) {
+    use fast::packing as plain;
+    let s = CATEGORY_1;
+    let values = many(|| rng.numbers(s.n, 127));
+    let packed_values = packed(&values, s.packed_values(), plain::pack_values);
+    entry("pack_values, 127", &values, s.packed_values(), archive::pack_values, plain::pack_values);
+    entry("unpack_values, 127", &packed_values, s.n, archive::unpack_values, plain::unpack_values);
+    let exponents = many(|| rng.numbers(s.n, 7));
+    let packed_exponents = packed(&exponents, s.packed_exponents(), plain::pack_exponents);
+    entry("pack_exponents, 127", &exponents, s.packed_exponents(), archive::pack_exponents, plain::pack_exponents);
+    entry("unpack_exponents, 127", &packed_exponents, s.n, archive::unpack_exponents, plain::unpack_exponents);
+}
