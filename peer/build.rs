@@ -1,4 +1,4 @@
-//! Links the proved archives into the comparison tests and the benchmark. The unit tests need none.
+//! Links the proved archives into the comparison tests, the benchmark and the soak. The unit tests need none.
 
 use std::env;
 use std::path::Path;
@@ -17,6 +17,7 @@ fn main() {
     let library = archive("GRIDPROFILE_ARCHIVE", "libgridprofile.a");
     println!("cargo:rustc-link-arg-tests={library}");
     println!("cargo:rustc-link-arg-bin=bench={library}");
+    println!("cargo:rustc-link-arg-bin=soak={library}");
     let tiny = archive("GRIDPROFILE_TINY_ARCHIVE", "libtiny_sizes.a");
     println!("cargo:rustc-link-arg-tests={tiny}");
 }

@@ -30,7 +30,9 @@ fn line(cells: [String; 8]) -> String {
 }
 
 pub fn print_heads() {
-    println!("The library's time for one call over the plain program's and OpenSSL's, the least of many in turns; what");
+    println!(
+        "The library's time for one call over the plain program's and OpenSSL's, the least of many in turns; what"
+    );
     println!("part of it SHAKE128 takes; bytes of stack.\n");
     println!("{}", line(HEADS.map(str::to_string)));
 }

@@ -1,0 +1,128 @@
+//! One input: its own random numbers, the buffers lent for it, and the comparison.
+
+use crate::lent::{shown, Fence, Lent, LentLength};
+use crate::world::World;
+use peer::harness::Function;
+use peer::rng::Rng;
+use std::array::from_fn;
+
+pub type PairInC = unsafe extern "C" fn(*const u8, usize, *mut u8, usize) -> u8;
+pub type LengthInC = unsafe extern "C" fn(*const u8, usize, *mut u8, usize, *mut usize) -> u8;
+pub type Length = fn(&[u8], &mut [u8], usize) -> (u8, usize);
+
+pub struct Turn<'a> {
+    pub rng: Rng,
+    pub world: &'a World,
+    pub fence: Fence,
+}
+
+impl Turn<'_> {
+    pub fn lend(&mut self, held: &[u8]) -> Lent {
+        Lent::new(&mut self.rng, self.fence, held)
+    }
+
+    pub fn lend_all<const COUNT: usize>(&mut self, all: [&[u8]; COUNT]) -> [Lent; COUNT] {
+        from_fn(|at| self.lend(all[at]))
+    }
+
+    pub fn lend_length(&mut self) -> LentLength {
+        LentLength::new(&mut self.rng, self.fence)
+    }
+
+    /// Whether one of `count` turns on average comes.
+    pub fn one_in(&mut self, count: usize) -> bool {
+        self.rng.below(count) == 0
+    }
+
+    pub fn pick<'b, T>(&mut self, all: &'b [T]) -> &'b T {
+        &all[self.rng.below(all.len())]
+    }
+
+    /// An entry that makes a buffer of `room` bytes from one input.
+    pub fn pair(&mut self, proved: PairInC, plain: Function, input: &[u8], room: usize) -> u8 {
+        let mut expected = self.rng.bytes(room);
+        let (lent, mut out) = (self.lend(input), self.lend(&expected));
+        // SAFETY: both buffers are alive for the call and do not overlap.
+        let answer = unsafe { proved(lent.pointer(), lent.len(), out.pointer_mut(), out.len()) };
+        let due = plain(input, &mut expected);
+        assert_eq!(answer, due, "answer on {} into {room} bytes", shown(input));
+        lent.demand_unchanged();
+        out.demand(&expected);
+        answer
+    }
+
+    /// An entry that writes at the front of a buffer of `room` bytes and gives the length. What it
+    /// wrote is compared after `settle`, where its order is open.
+    pub fn length(&mut self, proved: LengthInC, plain: Length, settle: fn(&mut [u8]), input: &[u8], room: usize) -> u8 {
+        let mut expected = self.rng.bytes(room);
+        let (lent, mut out, mut length) = (self.lend(input), self.lend(&expected), self.lend_length());
+        let (from, to) = (lent.pointer(), out.pointer_mut());
+        // SAFETY: as above.
+        let answer = unsafe { proved(from, lent.len(), to, out.len(), length.pointer_mut()) };
+        let due = plain(input, &mut expected, length.held);
+        assert_eq!((answer, length.value()), due, "answer and length on {} into {room} bytes", shown(input));
+        lent.demand_unchanged();
+        let mut content = out.content().to_vec();
+        settle(&mut content[..if answer == 0 { length.value() } else { 0 }]);
+        assert!(content == expected, "bytes lent, on {}: {}", shown(input), shown(&content));
+        answer
+    }
+}
+
+/// The size of a buffer: mostly the right one, else one beside it, an end, or any.
+pub fn size(rng: &mut Rng, right: usize, right_in_16: usize) -> usize {
+    if rng.below(16) < right_in_16 {
+        return right;
+    }
+    match rng.below(8) {
+        0 | 1 => right.saturating_sub(1),
+        2 | 3 => right + 1,
+        4 => 0,
+        5 => right.saturating_sub(8),
+        6 => rng.below(right + 1),
+        _ => rng.below(2 * right + 8),
+    }
+}
+
+/// Bytes of another size, with this content as far as it goes.
+pub fn resized(rng: &mut Rng, bytes: &[u8], right_in_16: usize) -> Vec<u8> {
+    let (mut out, fill) = (bytes.to_vec(), [0, 0xFF][rng.below(2)]);
+    out.resize(size(rng, bytes.len(), right_in_16), fill);
+    out
+}
+
+/// One byte changed, mostly; else a bit, a run of ones, a run of noise or two bytes exchanged. The
+/// first and the last byte are changed often.
+pub fn damaged(rng: &mut Rng, bytes: &[u8]) -> Vec<u8> {
+    let mut out = bytes.to_vec();
+    if out.is_empty() {
+        return out;
+    }
+    let at = match rng.below(16) {
+        0 => 0,
+        1 => out.len() - 1,
+        _ => rng.below(out.len()),
+    };
+    let end = out.len().min(at + 1 + rng.below(24));
+    match rng.below(10) {
+        0..=5 => out[at] ^= 1 + rng.below(255) as u8,
+        6 => out[at] ^= 1 << rng.below(8),
+        7 => out[at..end].fill(0xFF),
+        8 => rng.fill(&mut out[at..end]),
+        _ => {
+            let other = rng.below(out.len());
+            out.swap(at, other);
+        }
+    }
+    out
+}
+
+/// Numbers at and beside the ends of every range, and any.
+pub fn number(rng: &mut Rng) -> u32 {
+    let ends =
+        [0, 1, 2, 126, 127, 128, 163, 164, 255, 256, 257, 65_535, 65_536, 65_537, 1 << 31, u32::MAX - 1, u32::MAX];
+    match rng.below(4) {
+        0 => rng.word() as u32,
+        _ => ends[rng.below(ends.len())],
+    }
+}
