@@ -12,8 +12,11 @@
 #define STACK_BYTES (1 << 20)
 #define PATTERN 0xA5
 
+static const char line[] = "GP1,XA,B,12,230,50,1150,100,800,1500,1500,100,-2500,100\n";
+static const uint8_t country[2] = {'X', 'A'};
 static uint8_t private_seed[32], master_seed[16], salt[32], message[72];
-static uint8_t key[77], signature[19152];
+static uint8_t key[77], signature[19152], package[19224], store[1024], found[72];
+static size_t package_len, found_len;
 
 static void *nothing(void *unused) { return unused; }
 
@@ -33,6 +36,28 @@ static void *sign(void *unused)
 static void *verify(void *unused)
 {
     if (gridprofile_verify(key, sizeof key, message, sizeof message, signature, sizeof signature) != 0)
+        exit(1);
+    return unused;
+}
+
+static void *make_package(void *unused)
+{
+    if (gridprofile_make_package(private_seed, sizeof private_seed, master_seed, sizeof master_seed, salt, sizeof salt,
+                                 (const uint8_t *)line, sizeof line - 1, package, sizeof package, &package_len) != 0)
+        exit(1);
+    return unused;
+}
+
+static void *load(void *unused)
+{
+    if (gridprofile_load(store, sizeof store, key, sizeof key, package, package_len, country, sizeof country, 'B') != 0)
+        exit(1);
+    return unused;
+}
+
+static void *lookup(void *unused)
+{
+    if (gridprofile_lookup(store, sizeof store, country, sizeof country, 'B', found, sizeof found, &found_len) != 0)
         exit(1);
     return unused;
 }
@@ -63,5 +88,8 @@ int main(void)
     printf("make_key %zu\n", used(make_key) - base);
     printf("sign %zu\n", used(sign) - base);
     printf("verify %zu\n", used(verify) - base);
+    printf("make_package %zu\n", used(make_package) - base);
+    printf("load %zu\n", used(load) - base);
+    printf("lookup %zu\n", used(lookup) - base);
     return 0;
 }

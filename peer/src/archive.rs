@@ -3,6 +3,7 @@
 pub mod c;
 
 use crate::scheme::RoundCase;
+use crate::store::Device;
 
 macro_rules! entries {
     ($($name:ident is $symbol:ident;)*) => {
@@ -82,5 +83,29 @@ pub fn preview(input: &[u8], out: &mut [u8], mut length: usize) -> (u8, usize) {
     let ((a, b), (c, d)) = ((input.as_ptr(), input.len()), (out.as_mut_ptr(), out.len()));
     // SAFETY: as above.
     let answer = unsafe { c::gridprofile_preview(a, b, c, d, &mut length) };
+    (answer, length)
+}
+
+/// Answer and length, as `write_line` gives them.
+pub fn make_package(seeds: [&[u8]; 3], line: &[u8], package: &mut [u8], mut length: usize) -> (u8, usize) {
+    let [(a, b), (c, d), (e, f)] = seeds.map(|s| (s.as_ptr(), s.len()));
+    let ((g, h), (i, j)) = ((line.as_ptr(), line.len()), (package.as_mut_ptr(), package.len()));
+    // SAFETY: as above.
+    let answer = unsafe { c::gridprofile_make_package(a, b, c, d, e, f, g, h, i, j, &mut length) };
+    (answer, length)
+}
+
+pub fn load(store: &mut [u8], key: &[u8], package: &[u8], device: &Device) -> u8 {
+    let [(a, b), (c, d), (e, f)] = [key, package, device.country].map(|s| (s.as_ptr(), s.len()));
+    // SAFETY: as above.
+    unsafe { c::gridprofile_load(store.as_mut_ptr(), store.len(), a, b, c, d, e, f, device.class) }
+}
+
+/// Answer and length, as `write_line` gives them.
+pub fn lookup(store: &[u8], device: &Device, line: &mut [u8], mut length: usize) -> (u8, usize) {
+    let [(a, b), (c, d)] = [store, device.country].map(|s| (s.as_ptr(), s.len()));
+    let (e, f) = (line.as_mut_ptr(), line.len());
+    // SAFETY: as above.
+    let answer = unsafe { c::gridprofile_lookup(a, b, c, d, device.class, e, f, &mut length) };
     (answer, length)
 }

@@ -85,15 +85,24 @@ impl Store {
     }
 }
 
+/// Signs: private seed, master seed, salt, message, signature.
+pub type Sign<'a> = &'a dyn Fn(&[u8], &[u8], &[u8], &[u8], &mut [u8]) -> u8;
+
 /// Makes the package of a line: 1, then 5, then what signing says.
 pub fn make_package(seeds: [&[u8]; 3], line: &[u8], package: &mut [u8], length: usize) -> (u8, usize) {
+    let sign: Sign = &|seed, master, salt, message, out| scheme::sign(&S, seed, master, salt, message, out);
+    make_package_by(seeds, line, package, length, sign)
+}
+
+/// The same with another program that signs.
+pub fn make_package_by(seeds: [&[u8]; 3], line: &[u8], package: &mut [u8], length: usize, sign: Sign) -> (u8, usize) {
     let make = || {
         let sizes = seeds.map(<[u8]>::len);
         demand(sizes == [S.key_seed, S.round_seed, S.salt], BAD_SIZE)?;
         demand(package.len() == S.signature() + LONGEST, BAD_SIZE)?;
         read_line(line)?;
         let mut signature = vec![0; S.signature()];
-        match scheme::sign(&S, seeds[0], seeds[1], seeds[2], line, &mut signature) {
+        match sign(seeds[0], seeds[1], seeds[2], line, &mut signature) {
             0 => Ok([&signature, line].concat()),
             refusal => Err(refusal),
         }

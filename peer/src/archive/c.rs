@@ -61,4 +61,38 @@ extern "C" {
         length: *mut usize,
     ) -> u8;
     pub fn gridprofile_preview(input: In, input_len: usize, out: Out, out_len: usize, length: *mut usize) -> u8;
+    pub fn gridprofile_make_package(
+        private_seed: In,
+        private_seed_len: usize,
+        master_seed: In,
+        master_seed_len: usize,
+        salt: In,
+        salt_len: usize,
+        line: In,
+        line_len: usize,
+        package: Out,
+        package_len: usize,
+        length: *mut usize,
+    ) -> u8;
+    pub fn gridprofile_load(
+        store: Out,
+        store_len: usize,
+        key: In,
+        key_len: usize,
+        package: In,
+        package_len: usize,
+        country: In,
+        country_len: usize,
+        class_letter: u32,
+    ) -> u8;
+    pub fn gridprofile_lookup(
+        store: In,
+        store_len: usize,
+        country: In,
+        country_len: usize,
+        class_letter: u32,
+        line: Out,
+        line_len: usize,
+        length: *mut usize,
+    ) -> u8;
 }

@@ -9,6 +9,7 @@
 mod measure;
 mod scheme;
 mod small;
+mod store;
 mod table;
 
 use peer::rng::Rng;
@@ -32,6 +33,7 @@ fn main() {
     let mut rng = Rng::new(0x6265_6E63);
     table::print_heads();
     scheme::rows(&mut rng, &stacks);
+    store::rows(&mut rng, &stacks);
     small::hashing(&mut rng);
     small::sampling(&mut rng);
     small::packing(&mut rng);

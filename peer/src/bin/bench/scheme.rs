@@ -1,6 +1,6 @@
 //! Rows of key making, signing and verifying, and how verifying grows with the message.
 
-use crate::measure::least;
+use crate::measure::{least, Program};
 use crate::table::{microseconds, print, Row};
 use peer::archive;
 use peer::fast::scheme as plain;
@@ -15,12 +15,12 @@ pub const S: Sizes = CATEGORY_1;
 const INPUTS: usize = 4;
 
 /// Bytes of a usual line.
-const LINE: usize = 56;
+pub const LINE: usize = 56;
 
 /// The strings that a job hashes for a message of `LINE` bytes: length, bytes drawn, how often.
-type Hashed = &'static [(usize, usize, usize)];
+pub type Hashed = &'static [(usize, usize, usize)];
 const KEY_HASHES: Hashed = &[(33, 64, 1), (33, 3500, 1), (33, 96, 1)];
-const SIGN_HASHES: Hashed = &[
+pub const SIGN_HASHES: Hashed = &[
     (33, 64, 1),
     (33, 3500, 1),
     (33, 96, 1),
@@ -35,7 +35,7 @@ const SIGN_HASHES: Hashed = &[
     (121, 196, 1),
     (296, 400, 1),
 ];
-const VERIFY_HASHES: Hashed = &[
+pub const VERIFY_HASHES: Hashed = &[
     (33, 3500, 1),
     (121, 196, 1),
     (296, 400, 1),
@@ -71,7 +71,7 @@ fn signed(rng: &mut Rng, message_len: usize) -> Signed {
 }
 
 /// Times both programs and, in the same turns, the library's SHAKE128 over strings of the same lengths.
-fn row(name: &str, stack: Option<usize>, hashes: Hashed, library: &mut dyn FnMut(usize), plain: &mut dyn FnMut(usize)) {
+pub fn row(name: &str, stack: Option<&usize>, hashes: Hashed, library: Program, plain: Program) {
     let (input, mut out) = (vec![0; 5217], vec![0; 3500]);
     let mut hash = |_: usize| {
         for &(len, out_len, times) in hashes {
@@ -80,6 +80,7 @@ fn row(name: &str, stack: Option<usize>, hashes: Hashed, library: &mut dyn FnMut
     };
     let times = least(INPUTS, 1, &mut [library, plain, &mut hash]);
     let (library, plain, hashing) = (times[0], times[1], Some(times[2]));
+    let stack = stack.copied();
     print(&Row { name: name.to_string(), library, plain, hashing, stack, openssl: None });
 }
 
@@ -102,13 +103,14 @@ pub fn rows(rng: &mut Rng, stacks: &BTreeMap<String, usize>) {
         let Signed { key, message, signature, .. } = &cases[at];
         assert_eq!(f(key, message, signature), 0);
     };
-    let stack = |name: &str| stacks.get(name).copied();
     let mut library = |at: usize| make_key(archive::make_key, at, &mut out);
-    row("make_key", stack("make_key"), KEY_HASHES, &mut library, &mut |at| make_key(plain::make_key, at, &mut other));
+    row("make_key", stacks.get("make_key"), KEY_HASHES, &mut library, &mut |at| {
+        make_key(plain::make_key, at, &mut other)
+    });
     let mut library = |at: usize| sign(archive::sign, at, &mut out);
-    row("sign", stack("sign"), SIGN_HASHES, &mut library, &mut |at| sign(plain::sign, at, &mut other));
+    row("sign", stacks.get("sign"), SIGN_HASHES, &mut library, &mut |at| sign(plain::sign, at, &mut other));
     let mut library = |at: usize| verify(archive::verify, at);
-    row("verify", stack("verify"), VERIFY_HASHES, &mut library, &mut |at| verify(plain::verify, at));
+    row("verify", stacks.get("verify"), VERIFY_HASHES, &mut library, &mut |at| verify(plain::verify, at));
 }
 
 /// Bytes of a message, from none to the most.
@@ -126,7 +128,7 @@ pub fn growth(rng: &mut Rng) {
     };
     let mut library: Vec<_> = (0..cases.len()).map(|at| move |_: usize| verify(archive::verify, at)).collect();
     let mut other: Vec<_> = (0..cases.len()).map(|at| move |_: usize| verify(plain::verify, at)).collect();
-    let mut programs: Vec<&mut dyn FnMut(usize)> = Vec::new();
+    let mut programs: Vec<Program> = Vec::new();
     library.iter_mut().for_each(|program| programs.push(program));
     other.iter_mut().for_each(|program| programs.push(program));
     let times = least(1, 1, &mut programs);

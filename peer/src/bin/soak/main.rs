@@ -16,6 +16,7 @@ mod plant;
 mod run;
 mod scheme;
 mod small;
+mod store;
 mod turn;
 mod world;
 
@@ -27,7 +28,7 @@ use std::time::{SystemTime, UNIX_EPOCH};
 
 /// Inputs of the long run, and the answers that come.
 #[rustfmt::skip]
-const JOBS: [Job; 17] = [
+const JOBS: [Job; 20] = [
     Job { name: "shake128", inputs: 1_000_000, answers: &[0], one: small::shake128 },
     Job { name: "pack_values", inputs: 1_000_000, answers: &[0, 1, 3], one: small::pack_values },
     Job { name: "unpack_values", inputs: 1_000_000, answers: &[0, 1, 3], one: small::unpack_values },
@@ -45,10 +46,13 @@ const JOBS: [Job; 17] = [
     Job { name: "read_line", inputs: 2_000_000, answers: &[0, 1, 5], one: lines::read_line },
     Job { name: "write_line", inputs: 2_000_000, answers: &[0, 1, 5], one: lines::write_line },
     Job { name: "preview", inputs: 200_000, answers: &[0, 1], one: lines::preview },
+    Job { name: "make_package", inputs: 200_000, answers: &[0, 1, 5], one: store::make_package },
+    Job { name: "load", inputs: 400_000, answers: &[0, 1, 3, 4, 5, 6, 7, 8, 10], one: store::load },
+    Job { name: "lookup", inputs: 1_000_000, answers: &[0, 1, 5, 9, 10], one: store::lookup },
 ];
 
 /// The short run has one of so many inputs of the long one, and that under memcheck.
-const SHORT: f64 = 10.0;
+const SHORT: f64 = 15.0;
 const MEMCHECK: f64 = 400.0;
 
 /// The seed of the fixed slice.

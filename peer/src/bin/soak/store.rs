@@ -1,0 +1,209 @@
+//! Inputs for packages, loading and lookups. The fast plain program signs and verifies.
+
+use crate::lent::shown;
+use crate::lines::line;
+use crate::turn::{damaged, number, resized, size, Turn};
+use crate::world::{Package, S};
+use peer::archive::c;
+use peer::fast::scheme as plain;
+use peer::line::cases::{any_image, valid};
+use peer::line::{image, write_line, Profile, IMAGE, LONGEST, SHORTEST};
+use peer::rng::Rng;
+use peer::store::{self, Device, Store, CAPACITY};
+
+/// Bytes of a signature.
+const SIGNATURE: usize = 19_152;
+const LONGEST_PACKAGE: usize = SIGNATURE + LONGEST;
+
+/// One of 50 has the right sizes and a valid line, and of the others few.
+pub fn make_package(t: &mut Turn) -> u8 {
+    let whole = t.one_in(50);
+    let right = if whole { 16 } else { 8 };
+    let seeds = [S.key_seed, S.round_seed, S.salt].map(|len| {
+        let bytes = t.rng.bytes(len);
+        resized(&mut t.rng, &bytes, right)
+    });
+    let line = if whole { write_line(&valid(&mut t.rng)).expect("valid") } else { line(&mut t.rng) };
+    let room = size(&mut t.rng, LONGEST_PACKAGE, if whole { 16 } else { 12 });
+    compare_make_package(t, &seeds, &line, room)
+}
+
+fn compare_make_package(t: &mut Turn, seeds: &[Vec<u8>; 3], line: &[u8], room: usize) -> u8 {
+    let seeds = seeds.each_ref().map(|seed| &seed[..]);
+    let mut expected = t.rng.bytes(room);
+    let lent = t.lend_all([seeds[0], seeds[1], seeds[2], line]);
+    let (mut out, mut length) = (t.lend(&expected), t.lend_length());
+    let [(a, b), (c, d), (e, f), (g, h)] = lent.each_ref().map(|l| (l.pointer(), l.len()));
+    let (i, j) = (out.pointer_mut(), out.len());
+    // SAFETY: the buffers are alive for the call and do not overlap.
+    let answer = unsafe { c::gridprofile_make_package(a, b, c, d, e, f, g, h, i, j, length.pointer_mut()) };
+    let due = store::make_package_by(seeds, line, &mut expected, length.held, &plain::sign);
+    let inputs = || [seeds[0], seeds[1], seeds[2], line].map(shown).join(", ");
+    assert_eq!((answer, length.value()), due, "answer and length on {} into {room} bytes", inputs());
+    lent.iter().for_each(|l| l.demand_unchanged());
+    out.demand(&expected);
+    answer
+}
+
+/// A used slot of a pair that no package has: a valid profile, or what no load stores.
+fn slot(rng: &mut Rng, at: usize) -> [u8; IMAGE] {
+    let mut slot = if rng.below(8) == 0 { any_image(rng) } else { image(&valid(rng)) };
+    slot[0] = [1, 1, 1, 0xFF][rng.below(4)];
+    slot[1..3].copy_from_slice(&[b'A' + at as u8, b'q']);
+    if rng.below(8) > 0 {
+        slot[2] = b'Q';
+    }
+    slot
+}
+
+/// A store's image: slots used or free, in any order, no pair in two of them, and mostly one for the
+/// pair of `profile`, with a serial that is less, equal or greater.
+fn store_image(rng: &mut Rng, profile: &Profile) -> Vec<u8> {
+    let (filled, own) = (rng.below(3) * 8, rng.below(CAPACITY * 3 / 2));
+    let mut bytes = Vec::new();
+    for at in 0..CAPACITY {
+        if at == own {
+            let serial = [profile.serial - 1, profile.serial, profile.serial + 1][rng.below(3)];
+            bytes.extend(image(&Profile { serial, ..*profile }));
+        } else if filled == CAPACITY || rng.below(CAPACITY) < filled {
+            bytes.extend(slot(rng, at));
+        } else {
+            let mut free = rng.bytes(IMAGE);
+            free[0] = 0;
+            bytes.extend(if rng.below(2) == 0 { vec![0; IMAGE] } else { free });
+        }
+    }
+    bytes
+}
+
+/// A setting that no device has, or, by luck, one.
+fn no_device(rng: &mut Rng, country: &mut Vec<u8>, class: &mut u32) {
+    match rng.below(5) {
+        0 => *country = resized(rng, country, 0),
+        1 => *country = [&b"xA"[..], b"X[", b"@A", b"\0\0", b"A\xC3"][rng.below(5)].to_vec(),
+        2 => *class = [0, 64, 69, 97, *class + 256, *class + 65_536][rng.below(6)],
+        3 => *class = number(rng),
+        _ => *country = damaged(rng, country),
+    }
+}
+
+/// What `load` is given.
+struct Loading {
+    image: Vec<u8>,
+    key: Vec<u8>,
+    package: Vec<u8>,
+    country: Vec<u8>,
+    class: u32,
+}
+
+/// Ends of the lengths that are looked at.
+const LENGTHS: [usize; 9] = [
+    0,
+    1,
+    SIGNATURE - 1,
+    SIGNATURE,
+    SIGNATURE + 1,
+    SIGNATURE + SHORTEST - 1,
+    SIGNATURE + SHORTEST,
+    LONGEST_PACKAGE,
+    LONGEST_PACKAGE + 1,
+];
+
+impl Loading {
+    /// A size or the device's setting, or two of them, are wrong.
+    fn refused_early(&mut self, rng: &mut Rng) {
+        for _ in 0..1 + rng.below(2) {
+            match rng.below(5) {
+                0 => self.image = resized(rng, &self.image, 0),
+                1 => self.key = resized(rng, &self.key, 0),
+                2 => self.package.resize(LENGTHS[rng.below(LENGTHS.len())], b'7'),
+                3 => self.package = resized(rng, &self.package, 0),
+                _ => no_device(rng, &mut self.country, &mut self.class),
+            }
+        }
+    }
+
+    /// Package or key damaged, or the device set to another country or class; half of them are left.
+    fn spoilt(&mut self, rng: &mut Rng) {
+        match rng.below(16) {
+            0..=3 => self.package = damaged(rng, &self.package),
+            4 => self.package[SIGNATURE..][rng.below(SHORTEST)] ^= 1 << rng.below(8),
+            5 => self.key = damaged(rng, &self.key),
+            6 => self.class = 65 + rng.below(4) as u32,
+            7 => self.country[rng.below(2)] = b'A' + rng.below(26) as u8,
+            _ => (),
+        }
+    }
+}
+
+/// One of eight is verified.
+pub fn load(t: &mut Turn) -> u8 {
+    let Package { profile, bytes } = t.pick(&t.world.packages);
+    let mut input = Loading {
+        image: store_image(&mut t.rng, profile),
+        key: t.world.key.clone(),
+        package: bytes.clone(),
+        country: profile.country.to_vec(),
+        class: u32::from(profile.class),
+    };
+    if t.one_in(8) {
+        input.spoilt(&mut t.rng);
+    } else {
+        input.refused_early(&mut t.rng);
+    }
+    compare_load(t, &input)
+}
+
+fn compare_load(t: &mut Turn, input: &Loading) -> u8 {
+    let Loading { image, key, package, country, class } = input;
+    let (mut store, mut expected) = (t.lend(image), image.clone());
+    let lent = t.lend_all([key, package, country]);
+    let [(a, b), (c, d), (e, f)] = lent.each_ref().map(|l| (l.pointer(), l.len()));
+    // SAFETY: as above.
+    let answer = unsafe { c::gridprofile_load(store.pointer_mut(), store.len(), a, b, c, d, e, f, *class) };
+    let due = store::load(&mut expected, key, package, &Device { country, class: *class }, &plain::verify);
+    assert_eq!(answer, due, "answer on {} for {country:?} {class}, store {}", shown(package), shown(image));
+    lent.iter().for_each(|l| l.demand_unchanged());
+    if answer == 0 {
+        let [own, other] = [store.content(), &expected].map(|image| Store::from_image(image).sorted());
+        assert_eq!(own, other, "the store after a package for {country:?} {class}");
+    } else {
+        store.demand_unchanged();
+    }
+    answer
+}
+
+/// Any store, asked for one of its pairs, for another one, or for none that there is.
+pub fn lookup(t: &mut Turn) -> u8 {
+    let profile = t.pick(&t.world.packages).profile;
+    let image = store_image(&mut t.rng, &profile);
+    let slot = &image[t.rng.below(CAPACITY) * IMAGE..];
+    let (mut country, mut class) = (slot[1..3].to_vec(), u32::from(slot[3]));
+    match t.rng.below(8) {
+        0..=3 => (country, class) = (profile.country.to_vec(), u32::from(profile.class)),
+        4 => no_device(&mut t.rng, &mut country, &mut class),
+        _ => (),
+    }
+    let (image, room) = (resized(&mut t.rng, &image, 15), size(&mut t.rng, LONGEST, 15));
+    compare_lookup(t, &image, &Device { country: &country, class }, room)
+}
+
+fn compare_lookup(t: &mut Turn, image: &[u8], device: &Device, room: usize) -> u8 {
+    let mut expected = t.rng.bytes(room);
+    let lent = t.lend_all([image, device.country]);
+    let (mut out, mut length) = (t.lend(&expected), t.lend_length());
+    let [(a, b), (c, d)] = lent.each_ref().map(|l| (l.pointer(), l.len()));
+    let (e, f) = (out.pointer_mut(), out.len());
+    // SAFETY: as above.
+    let answer = unsafe { c::gridprofile_lookup(a, b, c, d, device.class, e, f, length.pointer_mut()) };
+    let due = store::lookup(image, device, &mut expected, length.held);
+    assert_eq!(
+        (answer, length.value()),
+        due,
+        "answer and length for {device:?} into {room} bytes, store {}",
+        shown(image)
+    );
+    lent.iter().for_each(|l| l.demand_unchanged());
+    out.demand(&expected);
+    answer
+}
