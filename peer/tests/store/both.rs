@@ -1,6 +1,6 @@
 //! One store, held as an image by the archive and by the independent program.
 
-use crate::archive;
+use peer::archive;
 use peer::fast;
 use peer::harness::{Lent, Tally};
 use peer::line::{write_line, Profile, LONGEST};

@@ -1,7 +1,6 @@
 //! Packages, loading and lookups through C, beside the independent program: runs of calls on one
 //! store image, step by step, images of any bytes, and every pair of refusals.
 
-mod archive;
 mod both;
 mod images;
 mod packages;

@@ -1,7 +1,7 @@
 //! Making packages.
 
-use crate::archive;
 use crate::both::{device_of, Both, Sent, CLEAR, LONGEST_PACKAGE, S, SHORTEST_PACKAGE};
+use peer::archive;
 use peer::harness::Tally;
 use peer::line::cases::valid;
 use peer::line::{read_line, write_line};
