@@ -14,7 +14,7 @@ test:
 
 bench:
 	rt staticlib gridprofile
-	gcc -std=c11 -D_GNU_SOURCE -O2 -Wall -Wextra -Werror -pedantic -I include peer/c/stack.c $(ARCHIVE) -o target/stack -lpthread
+	gcc -std=c11 -D_GNU_SOURCE -O2 -Wall -Wextra -Werror -pedantic -I include -Wl,-z,now peer/c/stack.c $(ARCHIVE) -o target/stack
 	cd peer && cargo run --release --offline --bin bench -- ../target/stack
 
 # SEED= repeats a run, COUNT= multiplies its inputs, ONLY= and AT= choose an entry and one of its inputs.

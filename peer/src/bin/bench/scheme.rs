@@ -1,12 +1,12 @@
 //! Rows of key making, signing and verifying, and how verifying grows with the message.
 
 use crate::measure::{least, Program};
+use crate::stacks::Stacks;
 use crate::table::{microseconds, print, Row};
 use peer::archive;
 use peer::fast::scheme as plain;
 use peer::rng::Rng;
 use peer::sizes::{Sizes, CATEGORY_1};
-use std::collections::BTreeMap;
 use std::hint::black_box;
 
 pub const S: Sizes = CATEGORY_1;
@@ -71,7 +71,7 @@ fn signed(rng: &mut Rng, message_len: usize) -> Signed {
 }
 
 /// Times both programs and, in the same turns, the library's SHAKE128 over strings of the same lengths.
-pub fn row(name: &str, stack: Option<&usize>, hashes: Hashed, library: Program, plain: Program) {
+pub fn row(name: &str, stack: Option<usize>, hashes: Hashed, library: Program, plain: Program) {
     let (input, mut out) = (vec![0; 5217], vec![0; 3500]);
     let mut hash = |_: usize| {
         for &(len, out_len, times) in hashes {
@@ -80,7 +80,6 @@ pub fn row(name: &str, stack: Option<&usize>, hashes: Hashed, library: Program, 
     };
     let times = least(INPUTS, 1, &mut [library, plain, &mut hash]);
     let (library, plain, hashing) = (times[0], times[1], Some(times[2]));
-    let stack = stack.copied();
     print(&Row { name: name.to_string(), library, plain, hashing, stack, openssl: None });
 }
 
@@ -88,8 +87,7 @@ type MakeKey = fn(&[u8], &mut [u8]) -> u8;
 type Sign = fn(&[u8], &[u8], &[u8], &[u8], &mut [u8]) -> u8;
 type Verify = fn(&[u8], &[u8], &[u8]) -> u8;
 
-/// `stacks` has the bytes of stack that entries use, by their names.
-pub fn rows(rng: &mut Rng, stacks: &BTreeMap<String, usize>) {
+pub fn rows(rng: &mut Rng, stacks: &Stacks) {
     let cases: Vec<Signed> = (0..INPUTS).map(|_| signed(rng, LINE)).collect();
     let (mut out, mut other) = (vec![0; S.signature()], vec![0; S.signature()]);
     let make_key = |f: MakeKey, at: usize, out: &mut [u8]| {
@@ -104,13 +102,13 @@ pub fn rows(rng: &mut Rng, stacks: &BTreeMap<String, usize>) {
         assert_eq!(f(key, message, signature), 0);
     };
     let mut library = |at: usize| make_key(archive::make_key, at, &mut out);
-    row("make_key", stacks.get("make_key"), KEY_HASHES, &mut library, &mut |at| {
+    row("make_key", stacks.of("make_key"), KEY_HASHES, &mut library, &mut |at| {
         make_key(plain::make_key, at, &mut other)
     });
     let mut library = |at: usize| sign(archive::sign, at, &mut out);
-    row("sign", stacks.get("sign"), SIGN_HASHES, &mut library, &mut |at| sign(plain::sign, at, &mut other));
+    row("sign", stacks.of("sign"), SIGN_HASHES, &mut library, &mut |at| sign(plain::sign, at, &mut other));
     let mut library = |at: usize| verify(archive::verify, at);
-    row("verify", stacks.get("verify"), VERIFY_HASHES, &mut library, &mut |at| verify(plain::verify, at));
+    row("verify", stacks.of("verify"), VERIFY_HASHES, &mut library, &mut |at| verify(plain::verify, at));
 }
 
 /// Bytes of a message, from none to the most.

@@ -1,6 +1,7 @@
 //! Rows of the small entries: SHAKE128, samples, packing.
 
 use crate::measure::least;
+use crate::stacks::Stacks;
 use crate::table::{print, Row};
 use peer::harness::Function;
 use peer::keccak::SHAKE128_RATE;
@@ -17,12 +18,21 @@ fn many(mut make: impl FnMut() -> Vec<u8>) -> Vec<Vec<u8>> {
     (0..INPUTS).map(|_| make()).collect()
 }
 
-/// One entry over an input and a buffer of `out_len` bytes.
-fn entry(name: &str, inputs: &[Vec<u8>], out_len: usize, proved: Function, plain: Function) {
+/// One entry over inputs and a buffer of `out_len` bytes.
+struct Job<'a> {
+    entry: &'static str,
+    inputs: &'a [Vec<u8>],
+    out_len: usize,
+    proved: Function,
+    plain: Function,
+}
+
+fn row(stacks: &Stacks, job: Job) {
+    let Job { entry, inputs, out_len, proved, plain } = job;
     let (mut out, mut other_out) = (vec![0; out_len], vec![0; out_len]);
     for input in inputs {
-        assert_eq!((proved(input, &mut out), plain(input, &mut other_out)), (0, 0), "{name}");
-        assert_eq!(out, other_out, "{name}");
+        assert_eq!((proved(input, &mut out), plain(input, &mut other_out)), (0, 0), "{entry}");
+        assert_eq!(out, other_out, "{entry}");
     }
     let call = |function: Function, input: &[u8], out: &mut [u8]| {
         black_box(function(input, black_box(out)));
@@ -30,23 +40,25 @@ fn entry(name: &str, inputs: &[Vec<u8>], out_len: usize, proved: Function, plain
     let mut library = |at: usize| call(proved, &inputs[at], &mut out);
     let mut other = |at: usize| call(plain, &inputs[at], &mut other_out);
     let times = least(INPUTS, INPUTS, &mut [&mut library, &mut other]);
-    print(&Row { name: name.to_string(), library: times[0], plain: times[1], ..Row::default() });
+    let (library, plain, stack) = (times[0], times[1], stacks.of(entry));
+    print(&Row { name: entry.to_string(), library, plain, stack, ..Row::default() });
 }
 
 /// Lengths in and out: a round's draw, a commitment's size, the matrix, messages.
 const HASHES: [(usize, usize); 6] = [(51, 96), (128, 32), (33, 3500), (1_024, 32), (16_384, 32), (65_536, 32)];
 
-pub fn hashing(rng: &mut Rng) {
+pub fn hashing(rng: &mut Rng, stacks: &Stacks) {
     let mut openssl = Shake128::load();
     if openssl.is_none() {
         println!("no OpenSSL 3 was found: its column stays empty");
     }
     for (len, out_len) in HASHES {
-        hash(rng, &mut openssl, len, out_len);
+        let row = hash(rng, &mut openssl, len, out_len);
+        print(&Row { stack: stacks.of("shake128"), ..row });
     }
 }
 
-fn hash(rng: &mut Rng, openssl: &mut Option<Shake128>, len: usize, out_len: usize) {
+fn hash(rng: &mut Rng, openssl: &mut Option<Shake128>, len: usize, out_len: usize) -> Row {
     let name = format!("SHAKE128, {len} to {out_len} bytes");
     let inputs = many(|| rng.bytes(len));
     let mut outs = [(); 3].map(|()| vec![0; out_len]);
@@ -62,10 +74,10 @@ fn hash(rng: &mut Rng, openssl: &mut Option<Shake128>, len: usize, out_len: usiz
     };
     assert_eq!(outs[0], outs[1], "{name}");
     assert!(openssl.is_none() || outs[0] == outs[2], "{name}");
-    print(&Row { name, library: times[0], plain: times[1], openssl: times.get(2).copied(), ..Row::default() });
+    Row { name, library: times[0], plain: times[1], openssl: times.get(2).copied(), ..Row::default() }
 }
 
-pub fn sampling(rng: &mut Rng) {
+pub fn sampling(rng: &mut Rng, stacks: &Stacks) {
     use fast::sampling as plain;
     let s = CATEGORY_1;
     let jobs: [(&str, usize, usize, Function, Function); 5] = [
@@ -87,29 +99,35 @@ pub fn sampling(rng: &mut Rng) {
             plain::sample_second_challenge,
         ),
     ];
-    for (name, block, count, proved, plain) in jobs {
-        entry(name, &many(|| rng.bytes(block)), count, proved, plain);
+    for (entry, block, out_len, proved, plain) in jobs {
+        row(stacks, Job { entry, inputs: &many(|| rng.bytes(block)), out_len, proved, plain });
     }
 }
 
-fn packed(numbers: &[Vec<u8>], len: usize, pack: Function) -> Vec<Vec<u8>> {
-    let one = |x: &Vec<u8>| {
-        let mut out = vec![0; len];
-        assert_eq!(pack(x, &mut out), 0);
+/// Packing and unpacking of 127 numbers below `limit`.
+fn packing_of(rng: &mut Rng, stacks: &Stacks, limit: usize, packed_len: usize, pack: Pair, unpack: Pair) {
+    let numbers = many(|| rng.numbers(CATEGORY_1.n, limit));
+    let packed = |x: &Vec<u8>| {
+        let mut out = vec![0; packed_len];
+        assert_eq!((pack.2)(x, &mut out), 0);
         out
     };
-    numbers.iter().map(one).collect()
+    let packed: Vec<Vec<u8>> = numbers.iter().map(packed).collect();
+    for (inputs, out_len, (entry, proved, plain)) in [(numbers, packed_len, pack), (packed, CATEGORY_1.n, unpack)] {
+        row(stacks, Job { entry, inputs: &inputs, out_len, proved, plain });
+    }
 }
 
-pub fn packing(rng: &mut Rng) {
+/// An entry in the library and in the plain program.
+type Pair = (&'static str, Function, Function);
+
+pub fn packing(rng: &mut Rng, stacks: &Stacks) {
     use fast::packing as plain;
     let s = CATEGORY_1;
-    let values = many(|| rng.numbers(s.n, 127));
-    let packed_values = packed(&values, s.packed_values(), plain::pack_values);
-    entry("pack_values, 127", &values, s.packed_values(), archive::pack_values, plain::pack_values);
-    entry("unpack_values, 127", &packed_values, s.n, archive::unpack_values, plain::unpack_values);
-    let exponents = many(|| rng.numbers(s.n, 7));
-    let packed_exponents = packed(&exponents, s.packed_exponents(), plain::pack_exponents);
-    entry("pack_exponents, 127", &exponents, s.packed_exponents(), archive::pack_exponents, plain::pack_exponents);
-    entry("unpack_exponents, 127", &packed_exponents, s.n, archive::unpack_exponents, plain::unpack_exponents);
+    let pack = ("pack_values", archive::pack_values as Function, plain::pack_values as Function);
+    let unpack = ("unpack_values", archive::unpack_values as Function, plain::unpack_values as Function);
+    packing_of(rng, stacks, 127, s.packed_values(), pack, unpack);
+    let pack = ("pack_exponents", archive::pack_exponents as Function, plain::pack_exponents as Function);
+    let unpack = ("unpack_exponents", archive::unpack_exponents as Function, plain::unpack_exponents as Function);
+    packing_of(rng, stacks, 7, s.packed_exponents(), pack, unpack);
 }

@@ -2,6 +2,7 @@
 
 use crate::measure::least;
 use crate::scheme::{row, LINE, S, SIGN_HASHES, VERIFY_HASHES};
+use crate::stacks::Stacks;
 use crate::table::{print, Row};
 use peer::archive;
 use peer::fast::scheme as plain;
@@ -9,7 +10,6 @@ use peer::line::{image, read_line, Profile, LONGEST};
 use peer::preview::cases::EXAMPLE;
 use peer::rng::Rng;
 use peer::store::{self, Device, CAPACITY, STORE};
-use std::collections::BTreeMap;
 use std::hint::black_box;
 
 /// The longest package.
@@ -38,7 +38,7 @@ fn case(rng: &mut Rng, line: &[u8]) -> Case {
 }
 
 /// A package made, and loaded into an empty store.
-pub fn rows(rng: &mut Rng, stacks: &BTreeMap<String, usize>) {
+pub fn rows(rng: &mut Rng, stacks: &Stacks) {
     let (line, device) = (&EXAMPLE.as_bytes()[..LINE], Device { country: b"XA", class: 66 });
     let cases: Vec<Case> = (0..INPUTS).map(|_| case(rng, line)).collect();
     let (mut out, mut other) = (vec![0; PACKAGE], vec![0; PACKAGE]);
@@ -48,7 +48,7 @@ pub fn rows(rng: &mut Rng, stacks: &BTreeMap<String, usize>) {
         let (answer, _) = store::make_package_by(seeds(at), line, black_box(&mut other), 0, &plain::sign);
         assert_eq!(answer, 0);
     };
-    row("make_package", stacks.get("make_package"), SIGN_HASHES, &mut library, &mut plain_make);
+    row("make_package", stacks.of("make_package"), SIGN_HASHES, &mut library, &mut plain_make);
     let mut library = |at: usize| {
         let (mut image, Case { key, package, .. }) = ([0; STORE], &cases[at]);
         assert_eq!(archive::load(black_box(&mut image), key, package, &device), 0);
@@ -57,12 +57,12 @@ pub fn rows(rng: &mut Rng, stacks: &BTreeMap<String, usize>) {
         let (mut image, Case { key, package, .. }) = ([0; STORE], &cases[at]);
         assert_eq!(store::load(black_box(&mut image), key, package, &device, &plain::verify), 0);
     };
-    row("load", stacks.get("load"), VERIFY_HASHES, &mut library, &mut plain_load);
+    row("load", stacks.of("load"), VERIFY_HASHES, &mut library, &mut plain_load);
     lookup(stacks);
 }
 
-/// Each of 16 stored profiles once. The other program is the plain one of this crate, not a fast one.
-fn lookup(stacks: &BTreeMap<String, usize>) {
+/// Each of 16 stored profiles once.
+fn lookup(stacks: &Stacks) {
     let profile = read_line(&EXAMPLE.as_bytes()[..LINE]).expect("a line");
     let stored: [Profile; CAPACITY] = std::array::from_fn(|at| Profile { country: [b'X', b'A' + at as u8], ..profile });
     let image: Vec<u8> = stored.iter().flat_map(image).collect();
@@ -72,6 +72,6 @@ fn lookup(stacks: &BTreeMap<String, usize>) {
     let mut plain = |at: usize| assert_eq!(store::lookup(&image, &device(at), black_box(&mut other), 0), (0, LINE));
     let times = least(CAPACITY, CAPACITY, &mut [&mut library, &mut plain]);
     assert_eq!(out, other, "lookup");
-    let stack = stacks.get("lookup").copied();
+    let stack = stacks.of("lookup");
     print(&Row { name: "lookup, 16 stored".to_string(), library: times[0], plain: times[1], stack, ..Row::default() });
 }
