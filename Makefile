@@ -1,6 +1,6 @@
-# `make test` is the merge gate; `make bench` measures the proved library beside plain programs; `make soak` compares every
-# C entry with the second program on millions of random inputs, and under memcheck on some thousands; `make demo` does the
-# main job once with the command-line program, which `make cli` builds.
+# `make test` is the merge gate; `make bench` measures the proved library beside plain programs; `make soak` compares
+# every C entry with the second program on millions of random inputs, and under memcheck on some thousands; `make demo`
+# does the main job once with the command-line program, which `make cli` builds.
 .PHONY: test bench soak memcheck demo cli
 
 ARCHIVE = target/staticlib/libgridprofile.a
@@ -14,7 +14,8 @@ test:
 
 bench:
 	rt staticlib gridprofile
-	gcc -std=c11 -D_GNU_SOURCE -O2 -Wall -Wextra -Werror -pedantic -I include -Wl,-z,now peer/c/stack.c $(ARCHIVE) -o target/stack
+	gcc -std=c11 -D_GNU_SOURCE -O2 -Wall -Wextra -Werror -pedantic -I include -Wl,-z,now \
+	    peer/c/stack.c $(ARCHIVE) -o target/stack
 	cd peer && cargo run --release --offline --bin bench -- ../target/stack
 
 # SEED= repeats a run, COUNT= multiplies its inputs, ONLY= and AT= choose an entry and one of its inputs.

@@ -1,6 +1,6 @@
 /* How much stack the entries use: each runs on a stack of its own that was filled with a pattern, and the bytes that no
- * longer hold it are counted. A job that does nothing gives the part that is not the library's. Link it with -z now: else
- * the linker's own work at the first memcpy is counted too. A line for each entry: its name and the bytes. */
+ * longer hold it are counted. A job that does nothing gives the part that is not the library's. A line for each entry:
+ * its name and the bytes. Linked with -z now: else the linker's work at the first memcpy would be counted too. */
 #include <stdint.h>
 #include <stdio.h>
 #include <stdlib.h>

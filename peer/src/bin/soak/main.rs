@@ -37,8 +37,12 @@ const JOBS: [Job; 20] = [
     Job { name: "sample_matrix", inputs: 200_000, answers: &[0, 1, 2], one: small::sample_matrix },
     Job { name: "sample_exponents", inputs: 1_000_000, answers: &[0, 1, 2], one: small::sample_exponents },
     Job { name: "sample_mask_values", inputs: 1_000_000, answers: &[0, 1, 2], one: small::sample_mask_values },
-    Job { name: "sample_first_challenges", inputs: 1_000_000, answers: &[0, 1, 2], one: small::sample_first_challenges },
-    Job { name: "sample_second_challenge", inputs: 1_000_000, answers: &[0, 1, 2], one: small::sample_second_challenge },
+    Job {
+        name: "sample_first_challenges", inputs: 1_000_000, answers: &[0, 1, 2], one: small::sample_first_challenges,
+    },
+    Job {
+        name: "sample_second_challenge", inputs: 1_000_000, answers: &[0, 1, 2], one: small::sample_second_challenge,
+    },
     Job { name: "make_key", inputs: 800_000, answers: &[0, 1], one: scheme::make_key },
     Job { name: "sign", inputs: 400_000, answers: &[0, 1], one: scheme::sign },
     Job { name: "verify", inputs: 800_000, answers: &[0, 1, 3, 4], one: scheme::verify },
