@@ -3,7 +3,7 @@
 
 use crate::lent::shown;
 use crate::turn::{damaged, number, resized, size, Turn};
-use crate::world::{Signed, S};
+use crate::world::{Signed, S, SHORT_MESSAGES};
 use peer::archive::c;
 use peer::fast::scheme as plain;
 use peer::rng::Rng;
@@ -77,7 +77,7 @@ fn asked(t: &mut Turn) -> [Vec<u8>; 3] {
 
 /// One or several of the three in a wrong size.
 fn missized(t: &mut Turn) -> [Vec<u8>; 3] {
-    let Signed { key, message, signature } = t.pick(&t.world.signed[..9]);
+    let Signed { key, message, signature } = t.pick(&t.world.signed[..SHORT_MESSAGES]);
     let rng = &mut t.rng;
     let mut all = [resized(rng, key, 8), message.clone(), resized(rng, signature, 8)];
     if all[0].len() == S.key() && all[2].len() == S.signature() || rng.below(16) == 0 {

@@ -29,8 +29,10 @@ pub struct World {
     pub packages: Vec<Package>,
 }
 
-/// Bytes of the messages that are signed: the ends, those of lines, and ends of hashed blocks.
+/// Bytes of the messages that are signed: the ends, those of lines, and ends of hashed blocks. The first
+/// ones are short.
 const MESSAGES: [usize; 12] = [0, 0, 1, 42, 56, 72, 102, 103, 104, 1_000, 4_096, 65_536];
+pub const SHORT_MESSAGES: usize = 9;
 
 fn signed(rng: &mut Rng, message_len: usize) -> Signed {
     let [seed, master, salt] = [S.key_seed, S.round_seed, S.salt].map(|len| rng.bytes(len));
