@@ -15,7 +15,9 @@ use store::Device;
 use store::LookupAnswer;
 use store::device_ok;
 use store::lookup;
-ghost use Rattle.image.specs.Entries.{ReadsImage, PutsLine, WritesImage, LooksUp};
+ghost use mathlib.Core.Path.{_≡_};
+ghost use lib.ListN.{length};
+ghost use Rattle.image.specs.Entries.{ReadsImage, PutsLine, WritesImage, deviceOf, LooksUp};
 
 // Reads a line into the image of its profile.
 pub fn read_line_image(line: &[u8], profile: &mut [u8]) -> u8
@@ -58,6 +60,21 @@ pub fn write_line_image(profile: &[u8], out: &mut [u8], length: &mut usize) -> u
     put_line(read_profile(profile), out, length)
 }
 
+// The setting that two bytes and a number make.
+pub fn device_of(country: &[u8], class: u32) -> Device
+    requires { ⌜ length (now country) ≡ 2 ⌝ }
+    ensures { λ r. ⌜ r ≡ deviceOf (now (country .entry)) class ⌝ }
+{
+    let letters = Country {
+        first: country[0],
+        second: country[1],
+    };
+    Device {
+        country: letters,
+        class: class,
+    }
+}
+
 // Writes the line that the store of an image has for a country and class.
 pub fn lookup_image(
     store: &[u8],
@@ -71,14 +88,7 @@ pub fn lookup_image(
     if country.len() != 2 {
         return 10;
     }
-    let letters = Country {
-        first: country[0],
-        second: country[1],
-    };
-    let device = Device {
-        country: letters,
-        class: class,
-    };
+    let device = device_of(country, class);
     if !device_ok(device) {
         return 10;
     }

@@ -1,9 +1,9 @@
 // Loading a package: a profile is stored only where its signature holds and it is for this device.
 use crate::sizes;
+use image::device_of;
 use image::get::read_store;
 use image::put::write_store;
 use parameters::Params;
-use profile::Country;
 use profile::ReadLine;
 use profile::read_line;
 use store::Device;
@@ -12,8 +12,6 @@ use store::Store;
 use store::device_ok;
 use store::put;
 ghost use mathlib.Core.Path.{_≡_};
-ghost use lib.ListN.{length};
-ghost use Rattle.image.specs.Entries.{deviceOf};
 ghost use Rattle.package.specs.Entries.{Scratch, Loads, LoadsImage};
 
 // An answer that leaves the store as it was.
@@ -55,21 +53,6 @@ pub fn load(
         ReadLine::Read(profile) => put(store, profile, device),
         ReadLine::BadSize => refuse(1, store),
         ReadLine::BadLine => refuse(5, store),
-    }
-}
-
-// The setting that two bytes and a number make.
-fn device_of(country: &[u8], class: u32) -> Device
-    requires { ⌜ length (now country) ≡ 2 ⌝ }
-    ensures { λ r. ⌜ r ≡ deviceOf (now (country .entry)) class ⌝ }
-{
-    let letters = Country {
-        first: country[0],
-        second: country[1],
-    };
-    Device {
-        country: letters,
-        class: class,
     }
 }
 

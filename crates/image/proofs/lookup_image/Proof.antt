@@ -11,47 +11,54 @@ use borrow.Author.Needs.{needs}
 use Rattle.image.proofs.lookup_image.Statement.{statement}
 use Rattle.image.proofs.lookup_image.Tie as tie
 
--- the device is set to a country and class
-device-set : (c : tie.Else2) → deviceOk classes (deviceOf (c .before .before .before .before .before .before .before .before .args .country .now) (c .before .before .before .before .before .before .before .before .args .class)) ≡ true
-device-set c = sym (c .before .device-ok .ensures) ∙ not-false _ (c .if2 .left)
+-- where the function begins
+abbrev entry : tie.After-device-ok → tie.Start
+entry c = c .before .before .before .before .before .before
+
+-- whether the device is set to a country and class
+answered : (c : tie.After-device-ok) → c .device-ok .result ≡ deviceOk classes (deviceOf (entry c .args .country .now) (entry c .args .class))
+answered c = c .device-ok .ensures ∙ ap (deviceOk classes) (c .before .device-of .ensures)
+
+device-set : (c : tie.Else2) → deviceOk classes (deviceOf (entry (c .before) .args .country .now) (entry (c .before) .args .class)) ≡ true
+device-set c = sym (answered (c .before)) ∙ not-false _ (c .if2 .left)
+
+abbrev entry-lookup : tie.After-lookup → tie.Start
+entry-lookup c = entry (c .before .before .before .before .before)
 
 -- the answer of `lookup` is what the image's store has for it
-found : (c : tie.After-lookup) → lookupResult (c .lookup .result) ≡ foundIn (c .before .before .before .before .before .before .before .before .before .before .before .before .args .store .now) (deviceOf (c .before .before .before .before .before .before .before .before .before .before .before .before .args .country .now) (c .before .before .before .before .before .before .before .before .before .before .before .before .args .class))
+found : (c : tie.After-lookup) → lookupResult (c .lookup .result) ≡ foundIn (entry-lookup c .args .store .now) (deviceOf (entry-lookup c .args .country .now) (entry-lookup c .args .class))
 found c =
-    let a = c .before .before .before .before .before .before .before .before .before .before .before .before .args in
-    looked-up (a .store .now) (deviceOf (a .country .now) (a .class)) (c .before .read-store .result) (lookupResult (c .lookup .result)) (device-set (c .before .before .before .before)) (c .before .read-store .ensures) (c .lookup .ensures)
+    let set = c .before .before .before .before in
+    let device = set .before .before .device-of in
+    looked-up (entry-lookup c .args .store .now) (device .result) (c .before .read-store .result) (lookupResult (c .lookup .result))
+    (sym (set .before .device-ok .ensures) ∙ not-false _ (set .if2 .left)) (c .before .read-store .ensures) (c .lookup .ensures)
+    ∙ ap (foundIn (entry-lookup c .args .store .now)) (device .ensures)
 
 returns : tie.Need-returns
 returns c =
     let a = c .before .before .before .before .args in
     lookup-country (a .store .now) (a .country .now) (a .out .now) (a .class) (a .length .now) (c .if1 .taken)
 
-shared-slice-read-t12 : tie.Need-shared-slice-read-t12
-shared-slice-read-t12 c = search needs
-
-shared-slice-read-t14 : tie.Need-shared-slice-read-t14
-shared-slice-read-t14 c = search needs
+device-of-requires : tie.Need-device-of-requires
+device-of-requires c κs = search needs
 
 device-ok-requires : tie.Need-device-ok-requires
 device-ok-requires c κs = search needs
 
 returns-2 : tie.Need-returns-2
 returns-2 c =
-    let sized = c .before .before .before .before in
-    let a = sized .before .before .before .before .args in
-    lookup-device (a .store .now) (a .country .now) (a .out .now) (a .class) (a .length .now) (sized .if1 .left) (sym (c .before .device-ok .ensures) ∙ not-true _ (c .if2 .taken))
+    let a = entry (c .before) .args in
+    lookup-device (a .store .now) (a .country .now) (a .out .now) (a .class) (a .length .now) (c .before .before .before .if1 .left) (sym (answered (c .before)) ∙ not-true _ (c .if2 .taken))
 
 returns-3 : tie.Need-returns-3
 returns-3 c =
-    let sized = c .before .before .before .before .before in
-    let a = sized .before .before .before .before .args in
-    lookup-image-size (a .store .now) (a .country .now) (a .out .now) (a .class) (a .length .now) (sized .if1 .left) (device-set (c .before)) (c .if3 .taken)
+    let a = entry (c .before .before) .args in
+    lookup-image-size (a .store .now) (a .country .now) (a .out .now) (a .class) (a .length .now) (c .before .before .before .before .if1 .left) (device-set (c .before)) (c .if3 .taken)
 
 returns-4 : tie.Need-returns-4
 returns-4 c =
-    let sized = c .before .before .before .before .before .before in
-    let a = sized .before .before .before .before .args in
-    lookup-line-size (a .store .now) (a .country .now) (a .out .now) (a .class) (a .length .now) (sized .if1 .left) (device-set (c .before .before)) (c .before .if3 .left) (c .if4 .taken)
+    let a = entry (c .before .before .before) .args in
+    lookup-line-size (a .store .now) (a .country .now) (a .out .now) (a .class) (a .length .now) (c .before .before .before .before .before .if1 .left) (device-set (c .before .before)) (c .before .if3 .left) (c .if4 .taken)
 
 read-store-requires : tie.Need-read-store-requires
 read-store-requires c κs = search needs
@@ -79,9 +86,8 @@ returns-5 c =
     let looked = c .before .before .before .before .before .before .before .before in
     let room = looked .before .before in
     let set = room .before .before in
-    let sized = set .before .before .before .before in
-    let a = sized .before .before .before .before .args in
-    lookup-line (a .store .now) (a .country .now) (a .out .now) (a .class) (a .length .now) (sized .if1 .left) (device-set set) (room .before .if3 .left) (room .if4 .left) _
+    let a = entry-lookup looked .args in
+    lookup-line (a .store .now) (a .country .now) (a .out .now) (a .class) (a .length .now) (set .before .before .before .if1 .left) (device-set set) (room .before .if3 .left) (room .if4 .left) _
     (sym (ap lookupResult (c .before .before .before .before .before .before .p .given .1)) ∙ found looked) (c .before .before .put-line .ensures)
 
 returns-6 : tie.Need-returns-6
@@ -89,15 +95,14 @@ returns-6 c =
     let looked = c .before .before in
     let room = looked .before .before in
     let set = room .before .before in
-    let sized = set .before .before .before .before in
-    let a = sized .before .before .before .before .args in
-    lookup-none (a .store .now) (a .country .now) (a .out .now) (a .class) (a .length .now) (sized .if1 .left) (device-set set) (room .before .if3 .left) (room .if4 .left)
+    let a = entry-lookup looked .args in
+    lookup-none (a .store .now) (a .country .now) (a .out .now) (a .class) (a .length .now) (set .before .before .before .if1 .left) (device-set set) (room .before .if3 .left) (room .if4 .left)
     (sym (ap lookupResult (c .enum-told .given .1)) ∙ found looked)
 
 returns-7 : tie.Need-returns-7
 returns-7 c =
     let looked = c .before .before in
-    let a = looked .before .before .before .before .before .before .before .before .before .before .before .before .args in
+    let a = entry-lookup looked .args in
     absurd (never-bad (a .store .now) (deviceOf (a .country .now) (a .class)) (sym (ap lookupResult (c .enum-told2 .given .1)) ∙ found looked))
 
 pub lookup-image-spec : {M : Type 1} → statement M
@@ -105,8 +110,7 @@ lookup-image-spec =
     tie.close
     (tie.spec
     returns
-    shared-slice-read-t12
-    shared-slice-read-t14
+    device-of-requires
     device-ok-requires
     returns-2
     returns-3
