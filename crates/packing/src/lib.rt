@@ -27,7 +27,8 @@ fn wide(x: u8) -> u64
     x as u64
 }
 
-fn pow2(k: usize) -> u64
+// A base of fields, and a remainder by it is a mask.
+pub fn pow2(k: usize) -> u64
     requires { ⌜ k < 64 ⌝ }
     ensures { λ r. ⌜ r ≡ 2 ^ k ⌝ }
 {

@@ -21,14 +21,6 @@ fn keep_one(scratch: &mut [u8], got: usize, x: u8, m: u8, d: u8) -> usize
     got
 }
 
-// A base of fields, and a remainder by it is a mask.
-fn pow2(k: usize) -> u64
-    requires { ⌜ k < 64 ⌝ }
-    ensures { λ r. ⌜ r ≡ 2 ^ k ⌝ }
-{
-    1 << k
-}
-
 // Keeps of the n lowest fields of v, each of width w. Each such function returns how many scratch then has.
 fn keep_some(scratch: &mut [u8], got: usize, v: u64, w: usize, n: usize, m: u8, d: u8) -> usize
     requires { ⌜ (got + n ≤ length (now scratch)) × (w < 64) × (2 ^ w + d ≤ 256) ⌝ }
@@ -36,7 +28,7 @@ fn keep_some(scratch: &mut [u8], got: usize, v: u64, w: usize, n: usize, m: u8, 
         ⌜ (r ≤ got + n)
         × (take r (now (scratch .exit)) ≡ take got (now (scratch .entry)) ++ keep m d (digits w n v)) ⌝ }
 {
-    let base = pow2(w);
+    let base = packing::pow2(w);
     let mut left = v;
     let mut kept = got;
     let mut i = 0;
