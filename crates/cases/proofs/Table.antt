@@ -15,7 +15,7 @@ use Rattle.linear.specs.Linear.{powers, scaled, response, transformation, lessT
 use Rattle.scheme.specs.Round.{replyValues, replyExponents, replySyndrome}
 use Rattle.decimal.specs.Decimal.{decimal, lastDigits, leadingDigits, valueFrom, leadingNumber, afterNumber}
 use Rattle.profile.specs.Rules.{fieldsOf, obeys, valid}
-use Rattle.profile.specs.Line.{fieldBytes, written, lineOf, fieldNumber, afterField, numbersIn, scanned, sameBytes, readLine}
+use Rattle.profile.specs.Line.{fieldBytes, written, lineOf, fieldNumber, afterField, numbersIn, scanned, readLine}
 use Rattle.cases.specs.Table.{runs, outcome, expected, table, holds, EveryCase, Told}
 
 -- the law: a test that the whole list passes is passed by each of its members
@@ -32,7 +32,7 @@ module _ {A : Type 0} (test : A → Bool) where
 
 -- the test
 tested : every holds table ≡ true
-unfolding zipWith same number digits pack unpack spareZero allBelow packChecks unpackChecks fields keep yield sample enough sampleChecks partners exchange exchanges shuffle shuffles shuffleChecks powers scaled response transformation lessTimes dot rowsTimes syndrome replyValues replyExponents replySyndrome decimal lastDigits leadingDigits valueFrom leadingNumber afterNumber fieldsOf obeys valid fieldBytes written lineOf fieldNumber afterField numbersIn scanned sameBytes readLine runs
+unfolding zipWith same number digits pack unpack spareZero allBelow packChecks unpackChecks fields keep yield sample enough sampleChecks partners exchange exchanges shuffle shuffles shuffleChecks powers scaled response transformation lessTimes dot rowsTimes syndrome replyValues replyExponents replySyndrome decimal lastDigits leadingDigits valueFrom leadingNumber afterNumber fieldsOf obeys valid fieldBytes written lineOf fieldNumber afterField numbersIn scanned readLine runs
 tested = refl
 
 -- the theorem

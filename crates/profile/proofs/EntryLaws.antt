@@ -7,13 +7,14 @@ use native.Mathlib.Omega.{arith}
 use lib.ListN.{length, take}
 use borrow.Author.Tests.{eq-eqb, ne-eqb}
 use Rattle.outcome.specs.Answer.{bad-size, bad-line}
+use Rattle.outcome.specs.Lists.{same}
 use Rattle.decimal.specs.Decimal.{Room, Appended}
 use Rattle.decimal.proofs.Stores.{front-length, front}
 use Rattle.profile.specs.declared.Profile.{Profile}
 use Rattle.profile.specs.declared.WriteLine.the-variants.{Written, BadSize, BadProfile}
 use Rattle.outcome.specs.Result.{done, refused}
 use Rattle.profile.specs.Rules.{_to_, contains, Class, valid}
-use Rattle.profile.specs.Line.{tag, shortest, longest, lineOf, scanned, sameBytes, readLine, writeLine, Writes}
+use Rattle.profile.specs.Line.{tag, shortest, longest, lineOf, scanned, readLine, writeLine, Writes}
 use Rattle.profile.proofs.RuleLaws.{test, parts}
 use Rattle.profile.proofs.LineLaws.{line-lengths}
 
@@ -25,23 +26,23 @@ module _ (table : List Class) (line : List ℕ) where
   read-size size = rw size
 
   module _ (size : contains (shortest to longest) (length line) ≡ true) where
-    pub read-tag : sameBytes (take (length tag) line) tag ≡ false → readLine table line ≡ refused bad-line
+    pub read-tag : same (take (length tag) line) tag ≡ false → readLine table line ≡ refused bad-line
     unfolding readLine
     read-tag tagged = rw (size, tagged)
 
-    module _ (tagged : sameBytes (take (length tag) line) tag ≡ true) where
+    module _ (tagged : same (take (length tag) line) tag ≡ true) where
       pub read-broken : valid table (scanned line) ≡ false → readLine table line ≡ refused bad-line
       unfolding readLine
       read-broken ok = rw (size, tagged, ok)
 
       module _ (ok : valid table (scanned line) ≡ true) where
-        pub read-respelled : sameBytes (lineOf (scanned line)) line ≡ false → readLine table line ≡ refused bad-line
+        pub read-respelled : same (lineOf (scanned line)) line ≡ false → readLine table line ≡ refused bad-line
         unfolding readLine
-        read-respelled same = rw (size, tagged, ok, same)
+        read-respelled again = rw (size, tagged, ok, again)
 
-        pub read-done : sameBytes (lineOf (scanned line)) line ≡ true → readLine table line ≡ done (scanned line)
+        pub read-done : same (lineOf (scanned line)) line ≡ true → readLine table line ≡ done (scanned line)
         unfolding readLine
-        read-done same = rw (size, tagged, ok, same)
+        read-done again = rw (size, tagged, ok, again)
 
 -- ---- writing
 

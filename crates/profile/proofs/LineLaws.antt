@@ -1,13 +1,12 @@
 -- Laws of lines: their lengths, and what is read from them. Assumes nothing.
 use mathlib.Core.Path.{_≡_, refl, _∙_, sym, ap, ap₂}
-use mathlib.Core.Bool.{Bool, true, false, false≢true, _&&_, and-false}
+use mathlib.Core.Bool.{true, false, false≢true}
 use mathlib.Core.List.{List, [], _∷_, _++_, map, append-assoc, append-nil}
-use Prim.Native.Nat.{ℕ, suc, _+_, max, _≤_, _<_}
-use native.Mathlib.Numerals.{add-one}
+use Prim.Native.Nat.{ℕ, _+_, max, _≤_, _<_}
 use native.Mathlib.Omega.{arith}
 use lib.Dec.{eqb, lit≤}
 use lib.ListN.{length, take, drop, getD, set, take-append-drop, length-append, drop-of-length-le}
-use lib.Seq.{drop-append-seam, drop-cons, drop-drop, drop-length}
+use lib.Seq.{drop-append-seam, drop-drop, drop-length}
 use borrow.Author.Tests.{eqb-true, eq-eqb, ne-eqb}
 use Rattle.decimal.specs.Decimal.{decimal, lastDigits, largest, isDigit, leadingDigits, valueFrom, leadingNumber, afterNumber, NumberAt, Room, Appended}
 use Rattle.decimal.specs.declared.Number.{Number}
@@ -20,7 +19,7 @@ use Rattle.profile.specs.declared.Trip.{Trip}
 use Rattle.profile.specs.declared.scan.TripRead.{TripRead}
 use Rattle.profile.specs.declared.Profile.{Profile}
 use Rattle.profile.specs.Rules.{share, above, below, plain, inOneOf, kindOf, sizeOf, Field, tripFields, fieldsOf, Rule, rules, fits, obeys}
-use Rattle.profile.specs.Line.{comma, minus, lineFeed, lead, fieldBytes, written, headOf, lineOf, shortest, longest, fieldNumber, afterField, numbersIn, limitOf, profileFrom, scanned, sameBytes}
+use Rattle.profile.specs.Line.{comma, minus, lineFeed, lead, fieldBytes, written, headOf, lineOf, shortest, longest, fieldNumber, afterField, numbersIn, limitOf, profileFrom, scanned}
 use Rattle.profile.specs.Places.{FieldAt, TripAt}
 use Rattle.profile.proofs.RuleLaws.{and-first, and-rest, same-kinds, fewest, most, top, range-bounds}
 
@@ -149,52 +148,6 @@ module _ (p : Profile) where
       (ap (λ (fs : List Field). written fs ++ (lineFeed ∷ [])) (sym (take-append-drop 3 (fieldsOf p)))
       ∙ ap (λ (l : List ℕ). l ++ (lineFeed ∷ [])) (written-append (take 3 (fieldsOf p)) (drop 3 (fieldsOf p)))
       ∙ append-assoc ratings trips (lineFeed ∷ []))
-
--- ---- comparing bytes
-
-pub same-self : (xs : List ℕ) → sameBytes xs xs ≡ true
-unfolding sameBytes
-same-self [] = refl
-same-self (x ∷ xs) = rw (eq-eqb x x refl) (same-self xs)
-
-pub same-equal : (xs ys : List ℕ) → sameBytes xs ys ≡ true → xs ≡ ys
-unfolding sameBytes
-same-equal [] [] e = refl
-same-equal [] (y ∷ ys) e = absurd (false≢true e)
-same-equal (x ∷ xs) [] e = absurd (false≢true e)
-same-equal (x ∷ xs) (y ∷ ys) e =
-    let head = eqb-true x y (and-first (eqb x y) _ e) in
-    let tail = same-equal xs ys (and-rest (eqb x y) _ e) in
-    λ i. head i ∷ tail i
-
--- bytes of another count differ
-pub same-lengths : (xs ys : List ℕ) → (length xs ≡ length ys → ⊥) → sameBytes xs ys ≡ false
-unfolding sameBytes
-same-lengths [] [] h = absurd (h refl)
-same-lengths [] (y ∷ ys) h = refl
-same-lengths (x ∷ xs) [] h = refl
-same-lengths (x ∷ xs) (y ∷ ys) h =
-    ap (λ (b : Bool). eqb x y && b) (same-lengths xs ys (λ e. h (ap suc e))) ∙ and-false (eqb x y)
-
--- a comparison that goes byte by byte: what is left to compare decides
-module _ (xs ys : List ℕ) (i : ℕ) where
-  left-cons : i < length xs → i < length ys
-      → sameBytes (drop i xs) (drop i ys) ≡ (eqb (getD xs i 0) (getD ys i 0) && sameBytes (drop (i + 1) xs) (drop (i + 1) ys))
-  unfolding sameBytes
-  left-cons h k = rw (add-one i, drop-cons xs i 0 h, drop-cons ys i 0 k)
-
-  pub same-step : i < length xs → i < length ys → getD xs i 0 ≡ getD ys i 0
-      → sameBytes (drop (i + 1) xs) (drop (i + 1) ys) ≡ sameBytes (drop i xs) (drop i ys)
-  same-step h k e =
-      sym (left-cons h k ∙ ap (λ (b : Bool). b && sameBytes (drop (i + 1) xs) (drop (i + 1) ys)) (eq-eqb (getD xs i 0) (getD ys i 0) e))
-
-  pub same-stop : i < length xs → i < length ys → (getD xs i 0 ≡ getD ys i 0 → ⊥) → sameBytes (drop i xs) (drop i ys) ≡ false
-  same-stop h k e =
-      left-cons h k ∙ ap (λ (b : Bool). b && sameBytes (drop (i + 1) xs) (drop (i + 1) ys)) (ne-eqb (getD xs i 0) (getD ys i 0) e)
-
-  pub same-end : length xs ≤ i → length ys ≤ i → sameBytes (drop i xs) (drop i ys) ≡ true
-  unfolding sameBytes
-  same-end h k = rw (drop-of-length-le xs h, drop-of-length-le ys k)
 
 -- ---- reading what was written
 

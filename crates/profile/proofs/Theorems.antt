@@ -10,12 +10,14 @@ use Rattle.decimal.specs.Decimal.{decimal, lastDigits}
 use Rattle.profile.specs.declared.Limit.the-variants.{Share, Offset}
 use Rattle.profile.specs.declared.Trip.{Trip}
 use Rattle.profile.specs.declared.Profile.{Profile}
+use Rattle.outcome.specs.Lists.{same}
 use Rattle.outcome.specs.Result.{done}
+use Rattle.outcome.proofs.Lists.{same-refl, same-equal}
 use Rattle.profile.specs.Rules.{_to_, contains, valid, obeys, fieldsOf}
-use Rattle.profile.specs.Line.{tag, shortest, longest, fieldBytes, written, lineOf, scanned, sameBytes, readChecks, readLine}
+use Rattle.profile.specs.Line.{tag, shortest, longest, fieldBytes, written, lineOf, scanned, readChecks, readLine}
 use Rattle.profile.specs.Theorems.{ReadsWritten, WritesRead, OneLine, LineLengths, Reached}
-use Rattle.profile.proofs.RuleLaws.{test, parts, passed-done, done-passed, holds}
-use Rattle.profile.proofs.LineLaws.{line-lengths, same-self, same-equal, scanned-line}
+use Rattle.profile.proofs.RuleLaws.{test, parts, passed-done, done-passed}
+use Rattle.profile.proofs.LineLaws.{line-lengths, scanned-line}
 
 pub line-lengths-hold : LineLengths
 line-lengths-hold table p ok = line-lengths p (parts table p ok .fields)
@@ -32,10 +34,10 @@ reads-written table p ok =
     let bounds = line-lengths-hold table p ok in
     let sized : contains (shortest to longest) (length line) ≡ true =
     rw (le-leb shortest (length line) (bounds .0)) (le-leb (length line) longest (bounds .1)) in
-    let tagged : sameBytes (take (length tag) line) tag ≡ true = ap (λ (l : List ℕ). sameBytes l tag) (tag-first p) ∙ same-self tag in
+    let tagged : same (take (length tag) line) tag ≡ true = ap (λ (l : List ℕ). same l tag) (tag-first p) ∙ same-refl tag in
     let still-valid : T (valid table (scanned line)) = rw back ok in
-    let respelled : sameBytes (lineOf (scanned line)) line ≡ true =
-    ap (λ (q : Profile). sameBytes (lineOf q) line) back ∙ same-self line in
+    let respelled : same (lineOf (scanned line)) line ≡ true =
+    ap (λ (q : Profile). same (lineOf q) line) back ∙ same-refl line in
     passed-done (readChecks table line) (scanned line)
     (test _ sized, (test _ tagged, (still-valid, (test _ respelled, tt))))
     ∙ ap done back
@@ -45,7 +47,7 @@ unfolding readLine
 writes-read table line p e =
     let found = done-passed (readChecks table line) (scanned line) p e in
     let tests = found .0 in
-    rw (← found .1) (same-equal (lineOf (scanned line)) line (holds _ (tests .1 .1 .1 .0)), tests .1 .1 .0)
+    rw (← found .1) (same-equal (lineOf (scanned line)) line (tests .1 .1 .1 .0), tests .1 .1 .0)
 
 pub one-line : OneLine
 one-line table line line′ p e e′ = sym (writes-read table line p e .0) ∙ writes-read table line′ p e′ .0

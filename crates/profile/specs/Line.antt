@@ -3,12 +3,12 @@
 -- of what it found is the very line that it was given: nothing but the one spelling of a profile is read.
 -- Assumes nothing.
 use mathlib.Core.Path.{_≡_}
-use mathlib.Core.Bool.{Bool, true, false, _&&_}
 use mathlib.Core.List.{List, [], _∷_, _++_}
 use Prim.Native.Nat.{ℕ, suc}
 use lib.Dec.{eqb}
 use lib.ListN.{length, getD, take, drop}
 use Rattle.outcome.specs.Answer.{bad-size, bad-line, Check, _unless_, pick}
+use Rattle.outcome.specs.Lists.{same}
 use Rattle.decimal.specs.Decimal.{decimal, leadingNumber, afterNumber}
 use Rattle.profile.specs.declared.Limit.{Limit}
 use Rattle.profile.specs.declared.Limit.the-variants.{Share, Offset}
@@ -104,19 +104,13 @@ profileFrom head ns =
 unfoldable pub scanned : List ℕ → Profile
 scanned line = profileFrom line (numbersIn rules (drop 8 line))
 
-unfoldable pub sameBytes : List ℕ → List ℕ → Bool
-sameBytes [] [] = true
-sameBytes [] (y ∷ ys) = false
-sameBytes (x ∷ xs) [] = false
-sameBytes (x ∷ xs) (y ∷ ys) = eqb x y && sameBytes xs ys
-
 -- the size; the tag; the rules, for what was found; and the line is the line of what was found
 abbrev pub readChecks : List Class → List ℕ → List Check
 readChecks table line =
     bad-size unless contains (shortest to longest) (length line)
-    ∷ bad-line unless sameBytes (take (length tag) line) tag
+    ∷ bad-line unless same (take (length tag) line) tag
     ∷ bad-line unless valid table (scanned line)
-    ∷ bad-line unless sameBytes (lineOf (scanned line)) line
+    ∷ bad-line unless same (lineOf (scanned line)) line
     ∷ []
 
 unfoldable pub readLine : List Class → List ℕ → Result Profile

@@ -3,9 +3,9 @@ mod put;
 pub mod rules;
 mod scan;
 
+use buffers::equal;
 use put::put_line;
 use rules::valid;
-use scan::same;
 use scan::scan;
 ghost use mathlib.Core.Path.{_≡_};
 ghost use Rattle.profile.specs.Rules.{classes, classIn, classAnswer};
@@ -90,7 +90,7 @@ pub fn read_line(line: &[u8]) -> ReadLine
     if line.len() > LONGEST {
         return ReadLine::BadSize;
     }
-    if !same(&line[..4], b"GP1,") {
+    if !equal(&line[..4], b"GP1,") {
         return ReadLine::BadLine;
     }
     let p = scan(line);
@@ -99,7 +99,7 @@ pub fn read_line(line: &[u8]) -> ReadLine
     }
     let mut again = [0u8; LONGEST];
     let end = put_line(p, &mut again);
-    if same(&again[..end], line) {
+    if equal(&again[..end], line) {
         return ReadLine::Read(p);
     }
     ReadLine::BadLine

@@ -12,30 +12,13 @@ use decimal::read_decimal;
 ghost use mathlib.Core.Path.{_≡_};
 ghost use Prim.Native.Nat.{_≤_};
 ghost use lib.ListN.{length};
-ghost use Rattle.profile.specs.Line.{lead, limitOf, scanned, sameBytes};
+ghost use Rattle.profile.specs.Line.{lead, limitOf, scanned};
 ghost use Rattle.profile.specs.Places.{FieldAt, TripAt};
 
 // A trip point that was read, and the place after it.
 pub struct TripRead {
     pub trip: Trip,
     pub end: usize,
-}
-
-// Whether two slices hold the same bytes.
-pub fn same(a: &[u8], b: &[u8]) -> bool
-    ensures { λ r. ⌜ r ≡ sameBytes (now (a .entry)) (now (b .entry)) ⌝ }
-{
-    if a.len() != b.len() {
-        return false;
-    }
-    let mut i = 0;
-    while i < a.len() {
-        if a[i] != b[i] {
-            return false;
-        }
-        i += 1;
-    }
-    true
 }
 
 // How many bytes stand before a field's digits.

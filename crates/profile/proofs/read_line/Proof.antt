@@ -7,9 +7,10 @@ use lib.ListN.{length, take, replicate}
 use lib.Seq.{length-take-le}
 use Rattle.decimal.specs.Decimal.{Room}
 use Rattle.profile.specs.declared.Profile.{Profile}
+use Rattle.outcome.specs.Lists.{same}
 use Rattle.outcome.specs.Result.{done}
 use Rattle.profile.specs.Rules.{_to_, contains, classes, valid}
-use Rattle.profile.specs.Line.{tag, shortest, longest, lineOf, scanned, sameBytes}
+use Rattle.profile.specs.Line.{tag, shortest, longest, lineOf, scanned}
 use Rattle.decimal.proofs.Stores.{appended-length, front-length, front-taken}
 use Rattle.profile.proofs.RuleLaws.{inside, under, over, failing, passing}
 use Rattle.profile.proofs.EntryLaws.{line-room, read-size, read-tag, read-broken, read-respelled, read-done}
@@ -28,15 +29,15 @@ line-begun c = line-fitting (c .before .before .before .before)
 abbrev line-kept : tie.Else4 → List ℕ
 line-kept c = line-begun (c .before .before .before)
 
-abbrev line-compared : tie.After-same2 → List ℕ
+abbrev line-compared : tie.After-equal2 → List ℕ
 line-compared c = line-kept (c .before .before .before .before .before)
 
 -- its length is within the limits; the tag is there; what was found keeps the rules
 sized : (c : tie.Else2) → contains (shortest to longest) (length (line-fitting c)) ≡ true
 sized c = inside shortest longest (length (line-fitting c)) (omega arith) (omega arith)
 
-tagged : (c : tie.Else3) → sameBytes (take (length tag) (line-begun c)) tag ≡ true
-tagged c = passing (c .before .same .ensures) (c .if3 .left)
+tagged : (c : tie.Else3) → same (take (length tag) (line-begun c)) tag ≡ true
+tagged c = passing (c .before .equal .ensures) (c .if3 .left)
 
 found-kept : (c : tie.Else4) → valid classes (c .before .before .scan .result) ≡ true
 found-kept c = passing (c .before .valid .ensures) (c .if4 .left)
@@ -59,12 +60,12 @@ put-within c =
     omega (arith, front-length (c .put-line .ensures) room, appended-length (c .put-line .ensures), room .room)
 
 -- so that the last comparison is with the line of what was scanned
-respelled : (c : tie.After-same2) → c .same2 .result ≡ sameBytes (lineOf (scanned (line-compared c))) (line-compared c)
+respelled : (c : tie.After-equal2) → c .equal2 .result ≡ same (lineOf (scanned (line-compared c))) (line-compared c)
 respelled c =
     let put = c .before .before .before in
-    c .same2 .ensures
-    ∙ ap (λ (l : List ℕ). sameBytes l (line-compared c)) (put-there put)
-    ∙ ap (λ (p : Profile). sameBytes (lineOf p) (line-compared c)) (put .before .before .before .before .scan .ensures)
+    c .equal2 .ensures
+    ∙ ap (λ (l : List ℕ). same l (line-compared c)) (put-there put)
+    ∙ ap (λ (p : Profile). same (lineOf p) (line-compared c)) (put .before .before .before .before .scan .ensures)
 
 returns : tie.Need-returns
 returns c = sym (read-size classes (c .before .before .args .line .now) (under shortest longest _ (c .if1 .taken)))
@@ -72,20 +73,20 @@ returns c = sym (read-size classes (c .before .before .args .line .now) (under s
 returns-2 : tie.Need-returns-2
 returns-2 c = sym (read-size classes (c .before .before .before .args .line .now) (over shortest longest _ (c .if2 .taken)))
 
-slice-aggregate-same : tie.Need-slice-aggregate-same
-slice-aggregate-same c = sym (length-take-le 4 (c .before .before .before .before .args .line .now) (omega arith))
+slice-aggregate-equal : tie.Need-slice-aggregate-equal
+slice-aggregate-equal c = sym (length-take-le 4 (c .before .before .before .before .args .line .now) (omega arith))
 
-slice-aggregate-same-2 : tie.Need-slice-aggregate-same-2
-slice-aggregate-same-2 c = search needs
+slice-aggregate-equal-2 : tie.Need-slice-aggregate-equal-2
+slice-aggregate-equal-2 c = search needs
 
-same-requires : tie.Need-same-requires
-same-requires c κs = search needs
+equal-requires : tie.Need-equal-requires
+equal-requires c κs = search needs
 
 returns-3 : tie.Need-returns-3
 returns-3 c =
     let fitting = c .before .before .before .before in
     let line = line-fitting fitting in
-    sym (read-tag classes line (sized fitting) (failing (c .before .same .ensures) (c .if3 .taken)))
+    sym (read-tag classes line (sized fitting) (failing (c .before .equal .ensures) (c .if3 .taken)))
 
 scan-requires : tie.Need-scan-requires
 scan-requires c κs = search needs
@@ -110,13 +111,13 @@ put-line-requires c κs = roomy c
 array-share-prefix-again : tie.Need-array-share-prefix-again
 array-share-prefix-again c = put-within (c .before)
 
-slice-aggregate-same-3 : tie.Need-slice-aggregate-same-3
-slice-aggregate-same-3 c =
+slice-aggregate-equal-3 : tie.Need-slice-aggregate-equal-3
+slice-aggregate-equal-3 c =
     let put = c .before .before in
     sym (length-take-le (put .put-line .result) (put .put-line .last .1 .0) (put-within put))
 
-same-requires-2 : tie.Need-same-requires-2
-same-requires-2 c κs = search needs
+equal-requires-2 : tie.Need-equal-requires-2
+equal-requires-2 c κs = search needs
 
 returns-5 : tie.Need-returns-5
 returns-5 c =
@@ -125,9 +126,9 @@ returns-5 c =
     let begun = kept .before .before .before in
     let fitting = begun .before .before .before .before in
     let line = line-fitting fitting in
-    let same = sym (respelled compared) ∙ c .if5 .taken in
+    let again = sym (respelled compared) ∙ c .if5 .taken in
     ap done (kept .before .before .scan .ensures)
-    ∙ sym (read-done classes line (sized fitting) (tagged begun) (rules-kept kept) same)
+    ∙ sym (read-done classes line (sized fitting) (tagged begun) (rules-kept kept) again)
 
 returns-6 : tie.Need-returns-6
 returns-6 c =
@@ -144,9 +145,9 @@ read-line-spec =
     (tie.spec
     returns
     returns-2
-    slice-aggregate-same
-    slice-aggregate-same-2
-    same-requires
+    slice-aggregate-equal
+    slice-aggregate-equal-2
+    equal-requires
     returns-3
     scan-requires
     valid-requires
@@ -154,7 +155,7 @@ read-line-spec =
     slice-aggregate-put-line
     put-line-requires
     array-share-prefix-again
-    slice-aggregate-same-3
-    same-requires-2
+    slice-aggregate-equal-3
+    equal-requires-2
     returns-5
     returns-6)
