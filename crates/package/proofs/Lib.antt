@@ -1,3 +1,4 @@
+pub mod Stages
 pub mod SizeLaws
 pub mod MakeLaws
 pub mod LoadLaws

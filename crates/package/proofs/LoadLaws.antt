@@ -2,13 +2,13 @@
 use mathlib.Core.Path.{_≡_, refl, _∙_, sym, ap, subst}
 use mathlib.Core.Bool.{Bool, true, false, _&&_}
 use mathlib.Core.List.{List, [], _∷_, _++_}
-use Prim.Native.Nat.{ℕ, suc, _-_, _≤_}
+use Prim.Native.Nat.{ℕ, _-_, _≤_}
 use native.Mathlib.Omega.{arith}
 use lib.Dec.{T, leb, leb→le}
 use lib.ListN.{length, take, drop}
 use borrow.Author.Tests.{eq-eqb, ne-eqb}
 use borrow.Rule.Slice.PartAt.{part-to-end}
-use Rattle.outcome.specs.Answer.{bad-device, Refusal, refusal, numberOf, Check, _unless_, firstRefusal}
+use Rattle.outcome.specs.Answer.{bad-device, Refusal, numberOf, Check, _unless_, firstRefusal}
 use Rattle.outcome.proofs.Checks.{passed, passed-front}
 use Rattle.parameters.specs.declared.Params.{Params}
 use Rattle.profile.specs.declared.Profile.{Profile}
@@ -28,17 +28,7 @@ use Rattle.image.specs.Image.{storeSize, storeOf, StoreWritten}
 use Rattle.image.specs.Entries.{deviceOf}
 use Rattle.package.specs.Package.{packageMin, packageMax, signatureIn, lineIn, loadSizes, storeChecks, loadChecks}
 use Rattle.package.specs.Entries.{Loads, loadImageChecks, LoadsImage}
-
--- ---- lists of checks
-
--- an answer that is not 0 decides, whatever stands behind it
-decides : (xs ys : List Check) (k : ℕ) → k ≡ firstRefusal xs → (k ≡ 0 → ⊥) → k ≡ firstRefusal (xs ++ ys)
-decides [] ys k e other = absurd (other e)
-decides (r unless true ∷ xs) ys k e other = decides xs ys k e other
-decides (r unless false ∷ xs) ys k e other = e
-
-number-positive : (r : Refusal) → numberOf r ≡ 0 → ⊥
-number-positive (refusal k) e = let h : _≡_ {A = ℕ} (suc k) 0 = e in omega arith
+use Rattle.package.proofs.Stages.{decides}
 
 both-left : (a b : Bool) → T (a && b) → T a
 both-left true b h = tt
@@ -108,7 +98,7 @@ module _ (p : Params) (key sealed : List ℕ) (device : Device) (old : Store) wh
     unfolding loadChecks
     load-sizes k e other =
         let here : k ≡ firstRefusal Front = rw set e in
-        refuses k (decides (Front ++ Verifying) Storing k (decides Front Verifying k here other) other) other
+        refuses k (decides (Front ++ Verifying) Storing k other (decides Front Verifying k other here)) other
 
     module _ (sized : firstRefusal Sizes ≡ 0) where
       front : firstRefusal Front ≡ 0
@@ -119,7 +109,7 @@ module _ (p : Params) (key sealed : List ℕ) (device : Device) (old : Store) wh
       unfolding loadChecks verify
       load-verify k e other =
           let here : k ≡ firstRefusal (Front ++ Verifying) = e ∙ sym (passed-front Front Verifying front) in
-          refuses k (decides (Front ++ Verifying) Storing k here other) other
+          refuses k (decides (Front ++ Verifying) Storing k other here) other
 
       module _ (verified : verify p key (lineIn p sealed) (signatureIn p sealed) ≡ 0) where
         -- what is stored decides
@@ -131,7 +121,7 @@ module _ (p : Params) (key sealed : List ℕ) (device : Device) (old : Store) wh
             → (r .answer ≡ numberOf q) × (r .store ≡ old) → Loads p key sealed device old r
         load-line q read =
             let here : numberOf q ≡ firstRefusal Storing = ap (λ (x : Result Profile). firstRefusal (storeChecks p device (stored old) x)) read in
-            refuses (numberOf q) (here ∙ sym last) (number-positive q)
+            refuses (numberOf q) (here ∙ sym last) (λ e. passed (q unless false ∷ []) e .0)
 
         pub load-put : (profile : Profile) {r : PutAnswer} → done profile ≡ readLine classes (lineIn p sealed)
             → Puts device profile old r → Loads p key sealed device old r

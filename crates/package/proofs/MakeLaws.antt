@@ -2,7 +2,7 @@
 use mathlib.Core.Path.{_≡_, refl, _∙_, sym, ap, subst}
 use mathlib.Core.Bool.{Bool, true, false}
 use mathlib.Core.List.{List, [], _∷_, _++_}
-use Prim.Native.Nat.{ℕ, zero, suc, _+_, _-_, _≤_}
+use Prim.Native.Nat.{ℕ, _+_, _-_, _≤_}
 use native.Mathlib.Omega.{arith}
 use lib.Dec.{T, eqb}
 use lib.ListN.{length, take, drop, length-append, take-append-drop, replicate}
@@ -10,7 +10,7 @@ use lib.Seq.{length-take-le, take-at}
 use borrow.Author.Tests.{eq-eqb, ne-eqb, eqb-true}
 use borrow.Rule.Slice.PartMut.{putMid}
 use Rattle.outcome.specs.Answer.{bad-size, bad-line, Check, _unless_, firstRefusal, pick, Answers, AnswersFront}
-use Rattle.outcome.proofs.Checks.{passed, holds, fails, passed-front, refused-front}
+use Rattle.outcome.proofs.Checks.{passed, holds, fails}
 use Rattle.parameters.specs.declared.Params.{Params}
 use Rattle.parameters.specs.Sound.{Sound}
 use Rattle.profile.specs.declared.Profile.{Profile}
@@ -27,6 +27,7 @@ use Rattle.keygen.proofs.Parts.{put-next}
 use Rattle.image.proofs.EntryLaws.{number-answer, answers-as}
 use Rattle.package.specs.Package.{packageMax, packageOf, makeSizes, makeChecks, makeLineChecks}
 use Rattle.package.specs.Entries.{Room, Seals, MakesPackage, MakesFromLine}
+use Rattle.package.proofs.Stages.{by-first, by-second, by-third}
 
 -- ---- answers
 
@@ -42,23 +43,6 @@ kept line old before k some e =
 front-as : {cs ds : List Check} {line old lent : List ℕ} {before k after : ℕ} → firstRefusal cs ≡ firstRefusal ds
     → AnswersFront cs line old before k lent after → AnswersFront ds line old before k lent after
 front-as {cs} {ds} e a = record { answers = answers-as {cs = cs} {ds = ds} e (a .answers); size = a .size }
-
--- tests that refuse decide
-decides : (xs ys : List Check) (k : ℕ) → (k ≡ 0 → ⊥) → k ≡ firstRefusal xs → k ≡ firstRefusal (xs ++ ys)
-decides xs ys zero some e = absurd (some refl)
-decides xs ys (suc k) some e = sym (refused-front xs ys k (sym e))
-
--- of three lists of tests in a row: the first that refuses, else the second, else the third
-module _ (xs ys zs : List Check) where
-  by-first : (k : ℕ) → (k ≡ 0 → ⊥) → k ≡ firstRefusal xs → k ≡ firstRefusal (xs ++ ys ++ zs)
-  by-first k some e = decides (xs ++ ys) zs k some (decides xs ys k some e)
-
-  module _ (first : firstRefusal xs ≡ 0) where
-    by-second : (k : ℕ) → (k ≡ 0 → ⊥) → k ≡ firstRefusal ys → k ≡ firstRefusal (xs ++ ys ++ zs)
-    by-second k some e = decides (xs ++ ys) zs k some (e ∙ sym (passed-front xs ys first))
-
-    by-third : firstRefusal ys ≡ 0 → firstRefusal zs ≡ firstRefusal (xs ++ ys ++ zs)
-    by-third second = sym (passed-front (xs ++ ys) zs (passed-front xs ys first ∙ second))
 
 -- ---- sealing a line
 
