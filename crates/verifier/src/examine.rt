@@ -157,31 +157,12 @@ pub fn examine(
     }
     let count = m * p.k;
     let first = Value(beta as u8);
+    let index = i as usize;
+    let entries = &vs[..count];
+    let syndrome = &s[..m];
     if challenge == 1 {
-        round(
-            p,
-            &vs[..count],
-            &s[..m],
-            salt,
-            i as usize,
-            first,
-            1,
-            reply,
-            c1,
-            h,
-        )
+        round(p, entries, syndrome, salt, index, first, 1, reply, c1, h)
     } else {
-        round(
-            p,
-            &vs[..count],
-            &s[..m],
-            salt,
-            i as usize,
-            first,
-            0,
-            reply,
-            c0,
-            h,
-        )
+        round(p, entries, syndrome, salt, index, first, 0, reply, c0, h)
     }
 }

@@ -172,8 +172,8 @@ reply-long c =
     reply-sized (a .p) (a .key .now) (a .salt .now) (a .i) (a .c0 .now) (a .c1 .now) (a .beta) (a .h .now) (a .challenge) (a .reply .now)
     (sizes .ensures) (if1 .left) (b-binary c)
 
-cast-t31 : tie.Need-cast-t31
-cast-t31 c =
+cast-t34 : tie.Need-cast-t34
+cast-t34 c =
     let at-if3 = c .before .before .before .before .before .before .before .before .before .before in
     omega (arith, β-small at-if3)
 
@@ -243,24 +243,24 @@ answers c b r matching eb em e =
     (sizes .ensures) (if1 .left) (syndrome .ensures .answer) (if2 .left) (numbers .ensures) (if3 .left)
     (drawn c) (vs-is c) (lent-part (s-lent at-syndrome) ∙ s-is at-if2 .0) eb em e
 
-slice-reshare-prefix-round : tie.Need-slice-reshare-prefix-round
-slice-reshare-prefix-round c =
-    let at-matrix = c .before .before .before .before .before .before .before in
+slice-reshare-prefix-entries : tie.Need-slice-reshare-prefix-entries
+slice-reshare-prefix-entries c =
+    let at-matrix = c .before .before .before .before .before .before in
     vs-within at-matrix
 
-slice-aggregate-round : tie.Need-slice-aggregate-round
-slice-aggregate-round c =
-    let at-matrix = c .before .before .before .before .before .before .before .before in
+slice-aggregate-entries : tie.Need-slice-aggregate-entries
+slice-aggregate-entries c =
+    let at-matrix = c .before .before .before .before .before .before .before in
     sym (length-take-le _ _ (vs-within at-matrix))
 
 array-share-prefix-s : tie.Need-array-share-prefix-s
 array-share-prefix-s c =
-    let at-syndrome = c .before .before .before .before .before .before .before .before .before .before .before .before .before .before .before .before in
+    let at-syndrome = c .before .before .before .before .before .before .before .before .before .before .before .before .before .before .before in
     lent-within (s-lent at-syndrome)
 
-slice-aggregate-round-2 : tie.Need-slice-aggregate-round-2
-slice-aggregate-round-2 c =
-    let at-syndrome = c .before .before .before .before .before .before .before .before .before .before .before .before .before .before .before .before .before in
+slice-aggregate-syndrome-2 : tie.Need-slice-aggregate-syndrome-2
+slice-aggregate-syndrome-2 c =
+    let at-syndrome = c .before .before .before .before .before .before .before .before .before .before .before .before .before .before .before .before in
     lent-length (s-lent at-syndrome)
 
 round-requires : tie.Need-round-requires
@@ -269,39 +269,19 @@ round-requires c κs =
     let at-if4 = c .before .before .before .before in
     let at-if2 = c .before .before .before .before .before .before .before .before .before .before .before .before .before .before .before in
     let at-if3 = c .before .before .before .before .before .before .before .before .before .before .before .before .before in
-    let if5 = c .before .before .if5 in
+    let if5 = c .if5 in
     let p = start .args .p in (
       (start .pre .0, vs-vector at-if4, s-vector at-if2, omega (arith, β-small at-if3)),
       reply-long at-if3 ∙ ap (λ (b : ℕ). replySize p b) (if5 .taken),
     )
 
-slice-reshare-prefix-round-2 : tie.Need-slice-reshare-prefix-round-2
-slice-reshare-prefix-round-2 c =
-    let at-matrix = c .before .before .before .before .before .before .before in
-    vs-within at-matrix
-
-slice-aggregate-round-3 : tie.Need-slice-aggregate-round-3
-slice-aggregate-round-3 c =
-    let at-matrix = c .before .before .before .before .before .before .before .before in
-    sym (length-take-le _ _ (vs-within at-matrix))
-
-array-share-prefix-s-2 : tie.Need-array-share-prefix-s-2
-array-share-prefix-s-2 c =
-    let at-syndrome = c .before .before .before .before .before .before .before .before .before .before .before .before .before .before .before .before in
-    lent-within (s-lent at-syndrome)
-
-slice-aggregate-round-4 : tie.Need-slice-aggregate-round-4
-slice-aggregate-round-4 c =
-    let at-syndrome = c .before .before .before .before .before .before .before .before .before .before .before .before .before .before .before .before .before in
-    lent-length (s-lent at-syndrome)
-
 abbrev entry-else5 : tie.Else5 → tie.Start
-entry-else5 c = c .before .before .before .before .before .before .before .before .before .before .before .before .before .before .before .before .before .before .before .before .before .before .before .before .before .before .before .before
+entry-else5 c = c .before .before .before .before .before .before .before .before .before .before .before .before .before .before .before .before .before .before .before .before .before .before .before .before .before .before .before .before .before .before
 
 -- a challenge other than 1 is 0
 b-zero : (c : tie.Else5) → entry-else5 c .args .challenge ≡ 0
 b-zero c =
-    let at-if3 = c .before .before .before .before .before .before .before .before .before .before .before in
+    let at-if3 = c .before .before .before .before .before .before .before .before .before .before .before .before .before in
     let other = c .if5 .left in omega (arith, b-binary at-if3)
 
 round-requires-2 : tie.Need-round-requires-2
@@ -310,10 +290,9 @@ round-requires-2 c κs =
     let at-if4 = c .before .before .before .before in
     let at-if2 = c .before .before .before .before .before .before .before .before .before .before .before .before .before .before .before in
     let at-if3 = c .before .before .before .before .before .before .before .before .before .before .before .before .before in
-    let at-if5 = c .before .before in
     let p = start .args .p in (
       (start .pre .0, vs-vector at-if4, s-vector at-if2, omega (arith, β-small at-if3)),
-      reply-long at-if3 ∙ ap (λ (b : ℕ). replySize p b) (b-zero at-if5),
+      reply-long at-if3 ∙ ap (λ (b : ℕ). replySize p b) (b-zero c),
     )
 
 same-length-3 : tie.Need-same-length-3
@@ -326,7 +305,7 @@ returns-5 : tie.Need-returns-5
 returns-5 c =
     let start = c .before .before .before .before .before .before .before .before .before .before .before .before .before .before .before .before .before .before .before .before .before .before .before .before .before .before .before .before .before .before .before in
     let at-if4 = c .before .before .before .before .before in
-    let if5 = c .before .before .before .if5 in
+    let if5 = c .before .if5 in
     answers at-if4 1 _ _ (sym (if5 .taken)) (rw (eq-eqb (start .args .challenge) 1 (if5 .taken))) (c .round .ensures)
 
 same-length-5 : tie.Need-same-length-5
@@ -339,9 +318,9 @@ returns-6 : tie.Need-returns-6
 returns-6 c =
     let start = c .before .before .before .before .before .before .before .before .before .before .before .before .before .before .before .before .before .before .before .before .before .before .before .before .before .before .before .before .before .before .before in
     let at-if4 = c .before .before .before .before .before in
-    let at-if5 = c .before .before .before in
-    let if5 = c .before .before .before .if5 in
+    let at-if5 = c .before in
+    let if5 = c .before .if5 in
     answers at-if4 0 _ _ (sym (b-zero at-if5)) (rw (ne-eqb (start .args .challenge) 1 (if5 .left))) (c .round2 .ensures)
 
 pub examine-spec : {M : Type 1} → statement M
-examine-spec = tie.close (tie.spec sizes-requires returns sub-m array-borrow-prefix-s slice-aggregate-syndrome syndrome-requires returns-2 numbers-requires returns-3 slice-aggregate-matrix matrix-requires same-length same-length-2 returns-4 mul-count cast-t31 slice-reshare-prefix-round slice-aggregate-round array-share-prefix-s slice-aggregate-round-2 round-requires slice-reshare-prefix-round-2 slice-aggregate-round-3 array-share-prefix-s-2 slice-aggregate-round-4 round-requires-2 same-length-3 same-length-4 returns-5 same-length-5 same-length-6 returns-6)
+examine-spec = tie.close (tie.spec sizes-requires returns sub-m array-borrow-prefix-s slice-aggregate-syndrome syndrome-requires returns-2 numbers-requires returns-3 slice-aggregate-matrix matrix-requires same-length same-length-2 returns-4 mul-count cast-t34 slice-reshare-prefix-entries slice-aggregate-entries array-share-prefix-s slice-aggregate-syndrome-2 round-requires round-requires-2 same-length-3 same-length-4 returns-5 same-length-5 same-length-6 returns-6)
