@@ -3,26 +3,20 @@ use mathlib.Core.Path.{_≡_, refl, _∙_, sym, ap, subst}
 use mathlib.Core.Bool.{true, false}
 use mathlib.Core.List.{List, [], _∷_, _++_}
 use Prim.Native.Nat.{ℕ}
-use native.Mathlib.Omega.{arith}
 use lib.Dec.{eqb}
 use lib.ListN.{length, drop}
 use borrow.Author.Tests.{eq-eqb, ne-eqb}
-use Rattle.outcome.specs.Answer.{bad-size, bad-line, nothing-stored, bad-device, Check, _unless_, firstRefusal, pick, Answers, AnswersFront}
+use Rattle.outcome.specs.Answer.{bad-size, bad-line, nothing-stored, Check, _unless_, firstRefusal, pick, Answers, AnswersFront}
 use Rattle.outcome.proofs.Checks.{refused as one-refused}
 use Rattle.profile.specs.declared.Profile.{Profile}
 use Rattle.profile.specs.declared.WriteLine.{WriteLine}
 use Rattle.profile.specs.declared.WriteLine.the-variants.{Written, BadSize, BadProfile}
-use Rattle.outcome.specs.Result.{Result, done, refused, answer, numberIn}
+use Rattle.outcome.specs.Result.{done, refused, answer, numberIn}
 use Rattle.profile.specs.Rules.{classes}
 use Rattle.profile.specs.Line.{longest, lineOf, readLine, writeChecks, writeLine, writeAnswer, Writes}
 use Rattle.profile.proofs.RuleLaws.{done-passed}
-use Rattle.store.specs.declared.Device.{Device}
-use Rattle.store.specs.declared.Store.{Store}
-use Rattle.store.specs.Keys.{deviceKey, deviceOk}
-use Rattle.store.specs.Stored.{stored, find, isDone}
-use Rattle.store.specs.Calls.{lookupIn}
-use Rattle.store.proofs.StoredLaws.{find-none}
-use Rattle.image.specs.Image.{profileSize, storeSize, profileOf, imageOf, storeOf}
+use Rattle.store.specs.Keys.{deviceOk}
+use Rattle.image.specs.Image.{profileSize, storeSize, profileOf, imageOf}
 use Rattle.image.specs.Entries.{
   imageIn,
   ReadsImage,
@@ -110,25 +104,6 @@ module _ (image old : List ℕ) (before : ℕ) where
       }
 
 -- ---- looking up
-
-kept : (x : Result Profile) → (isDone x ≡ false → x ≡ refused nothing-stored) → pick (isDone x) x (refused nothing-stored) ≡ x
-kept (done p) h = refl
-kept (refused r) h = sym (h refl)
-
-module _ (image : List ℕ) (d : Device) where
-  -- a device that is set gets what is found
-  pub looked-up : (s : Store) (x : Result Profile) → deviceOk classes d ≡ true → s ≡ storeOf image → x ≡ lookupIn classes d (stored s) → x ≡ foundIn image d
-  unfolding lookupIn foundIn
-  looked-up s x ok meant e =
-      e ∙ ap (λ (t : Store). lookupIn classes d (stored t)) meant
-      ∙ rw ok (kept (find (deviceKey d) (stored (storeOf image))) (find-none (deviceKey d) (stored (storeOf image))))
-
-  pub never-bad : refused bad-device ≡ foundIn image d → ⊥
-  unfolding foundIn
-  never-bad e =
-      let none : foundIn image d ≡ refused nothing-stored = find-none (deviceKey d) (stored (storeOf image)) (sym (ap isDone e)) in
-      let numbers : _≡_ {A = ℕ} 10 9 = ap numberIn (e ∙ none) in
-      omega arith
 
 module _ (image country old : List ℕ) (class before : ℕ) where
   pub lookup-country : (length country ≡ 2 → ⊥) → LooksUp image country class old before 10 old before

@@ -1,9 +1,11 @@
 // Profiles and stores as images, bytes that C holds, and the line entries over them.
+pub mod find;
 pub mod get;
 pub mod put;
 
+use find::find_slot;
+use find::key_for;
 use get::read_profile;
-use get::read_store;
 use profile::Country;
 use profile::Profile;
 use profile::ReadLine;
@@ -12,9 +14,7 @@ use profile::read_line;
 use profile::write_line;
 use put::write_profile;
 use store::Device;
-use store::LookupAnswer;
 use store::device_ok;
-use store::lookup;
 ghost use mathlib.Core.Path.{_≡_};
 ghost use lib.ListN.{length};
 ghost use Rattle.image.specs.Entries.{ReadsImage, PutsLine, WritesImage, deviceOf, LooksUp};
@@ -98,9 +98,11 @@ pub fn lookup_image(
     if out.len() != 72 {
         return 1;
     }
-    match lookup(read_store(store), device) {
-        LookupAnswer::Found(p) => put_line(p, out, length),
-        LookupAnswer::NothingStored => 9,
-        LookupAnswer::BadDevice => 10,
+    let i = find_slot(store, key_for(device));
+    if i >= 16 {
+        return 9;
     }
+    let at = i * 64;
+    let end = at + 64;
+    put_line(read_profile(&store[at..end]), out, length)
 }

@@ -1,12 +1,21 @@
 -- `image::lookup_image` meets its contract: one check after the other, and then the line of what is found. Assumes nothing.
 use mathlib.Core.Path.{_≡_, _∙_, sym, ap}
 use mathlib.Core.Bool.{true}
+use Prim.Native.Nat.{ℕ, _+_, _*_, _-_}
+use native.Mathlib.Omega.{arith}
+use lib.ListN.{take, drop}
 use borrow.Author.Tests.{not-true, not-false}
+use Rattle.outcome.specs.Result.{done}
+use Rattle.profile.specs.declared.Profile.{Profile}
 use Rattle.profile.specs.Rules.{classes}
-use Rattle.store.specs.Keys.{deviceOk}
-use Rattle.store.specs.Calls.{lookupResult}
-use Rattle.image.specs.Entries.{deviceOf, foundIn}
-use Rattle.image.proofs.EntryLaws.{lookup-country, lookup-device, lookup-image-size, lookup-line-size, lookup-none, lookup-line, looked-up, never-bad}
+use Rattle.store.specs.declared.Key.{Key}
+use Rattle.store.specs.Keys.{deviceKey, deviceOk}
+use Rattle.store.specs.Stored.{capacity, holding, firstSlot}
+use Rattle.store.proofs.KeyLaws.{device-class-byte}
+use Rattle.image.specs.Image.{profileSize, profileOf, slotsOf}
+use Rattle.image.specs.Entries.{deviceOf}
+use Rattle.image.proofs.EntryLaws.{lookup-country, lookup-device, lookup-image-size, lookup-line-size, lookup-none, lookup-line}
+use Rattle.image.proofs.FindLaws.{found-here, found-none}
 use borrow.Author.Needs.{needs}
 use Rattle.image.proofs.lookup_image.Statement.{statement}
 use Rattle.image.proofs.lookup_image.Tie as tie
@@ -22,17 +31,18 @@ answered c = c .device-ok .ensures ∙ ap (deviceOk classes) (c .before .device-
 device-set : (c : tie.Else2) → deviceOk classes (deviceOf (entry (c .before) .args .country .now) (entry (c .before) .args .class)) ≡ true
 device-set c = sym (answered (c .before)) ∙ not-false _ (c .if2 .left)
 
-abbrev entry-lookup : tie.After-lookup → tie.Start
-entry-lookup c = entry (c .before .before .before .before .before)
+abbrev entry-found : tie.After-find-slot → tie.Start
+entry-found c = entry (c .before .before .before .before .before)
 
--- the answer of `lookup` is what the image's store has for it
-found : (c : tie.After-lookup) → lookupResult (c .lookup .result) ≡ foundIn (entry-lookup c .args .store .now) (deviceOf (entry-lookup c .args .country .now) (entry-lookup c .args .class))
-found c =
-    let set = c .before .before .before .before in
-    let device = set .before .before .device-of in
-    looked-up (entry-lookup c .args .store .now) (device .result) (c .before .read-store .result) (lookupResult (c .lookup .result))
-    (sym (set .before .device-ok .ensures) ∙ not-false _ (set .if2 .left)) (c .before .read-store .ensures) (c .lookup .ensures)
-    ∙ ap (foundIn (entry-lookup c .args .store .now)) (device .ensures)
+-- the slot that was found is the first that holds the key of the device
+first : (c : tie.After-find-slot)
+    → let a = entry-found c .args in
+    c .find-slot .result ≡ firstSlot (holding (deviceKey (deviceOf (a .country .now) (a .class)))) (slotsOf capacity (a .store .now))
+first c =
+    let device = c .before .before .before .before .before .before .device-of in
+    let slots = slotsOf capacity (entry-found c .args .store .now) in
+    c .find-slot .ensures
+    ∙ ap (λ (k : Key). firstSlot (holding k) slots) (c .before .key-for .ensures ∙ ap deviceKey (device .ensures))
 
 returns : tie.Need-returns
 returns c =
@@ -60,50 +70,59 @@ returns-4 c =
     let a = entry (c .before .before .before) .args in
     lookup-line-size (a .store .now) (a .country .now) (a .out .now) (a .class) (a .length .now) (c .before .before .before .before .before .if1 .left) (device-set (c .before .before)) (c .before .if3 .left) (c .if4 .taken)
 
-read-store-requires : tie.Need-read-store-requires
-read-store-requires c κs = search needs
+key-for-requires : tie.Need-key-for-requires
+key-for-requires c κs =
+    let set = c .before .before in
+    device-class-byte (set .before .before .device-of .result) (sym (set .before .device-ok .ensures) ∙ not-false _ (set .if2 .left))
 
-lookup-requires : tie.Need-lookup-requires
-lookup-requires c κs = search needs
+find-slot-requires : tie.Need-find-slot-requires
+find-slot-requires c κs = search needs
 
-enum-known-p : tie.Need-enum-known-p
-enum-known-p c = search needs
+returns-5 : tie.Need-returns-5
+returns-5 c =
+    let found = c .before in
+    let room = found .before .before in
+    let set = room .before .before in
+    let a = entry-found found .args in
+    lookup-none (a .store .now) (a .country .now) (a .out .now) (a .class) (a .length .now) (set .before .before .before .if1 .left) (device-set set) (room .before .if3 .left) (room .if4 .left)
+    (found-none (a .store .now) (deviceOf (a .country .now) (a .class)) (found .find-slot .result) (first found) (c .if5 .taken))
+
+mul-at : tie.Need-mul-at
+mul-at c = search needs
+
+add-end : tie.Need-add-end
+add-end c = search needs
+
+sub-read-profile : tie.Need-sub-read-profile
+sub-read-profile c = search needs
+
+part-read-profile-start : tie.Need-part-read-profile-start
+part-read-profile-start c = search needs
+
+part-read-profile-end : tie.Need-part-read-profile-end
+part-read-profile-end c = search needs
+
+read-profile-requires : tie.Need-read-profile-requires
+read-profile-requires c κs = search needs
 
 put-line-requires : tie.Need-put-line-requires
 put-line-requires c κs = search needs
 
-enum-told : tie.Need-enum-told
-enum-told c = search needs
-
-enum-told-2 : tie.Need-enum-told-2
-enum-told-2 c = search needs
-
 same-length : tie.Need-same-length
 same-length c = search needs
 
-returns-5 : tie.Need-returns-5
-returns-5 c =
-    let looked = c .before .before .before .before .before .before .before .before in
-    let room = looked .before .before in
-    let set = room .before .before in
-    let a = entry-lookup looked .args in
-    lookup-line (a .store .now) (a .country .now) (a .out .now) (a .class) (a .length .now) (set .before .before .before .if1 .left) (device-set set) (room .before .if3 .left) (room .if4 .left) _
-    (sym (ap lookupResult (c .before .before .before .before .before .before .p .given .1)) ∙ found looked) (c .before .before .put-line .ensures)
-
 returns-6 : tie.Need-returns-6
 returns-6 c =
-    let looked = c .before .before in
-    let room = looked .before .before in
+    let read = c .before .before .before .before .before in
+    let found = read .before .before .before in
+    let room = found .before .before in
     let set = room .before .before in
-    let a = entry-lookup looked .args in
-    lookup-none (a .store .now) (a .country .now) (a .out .now) (a .class) (a .length .now) (set .before .before .before .if1 .left) (device-set set) (room .before .if3 .left) (room .if4 .left)
-    (sym (ap lookupResult (c .enum-told .given .1)) ∙ found looked)
-
-returns-7 : tie.Need-returns-7
-returns-7 c =
-    let looked = c .before .before in
-    let a = entry-lookup looked .args in
-    absurd (never-bad (a .store .now) (deviceOf (a .country .now) (a .class)) (sym (ap lookupResult (c .enum-told2 .given .1)) ∙ found looked))
+    let a = entry-found found .args in
+    let i = found .find-slot .result in
+    let width : i * 64 + 64 - i * 64 ≡ profileSize = omega arith in
+    let profile = read .read-profile .ensures ∙ ap (λ (k : ℕ). profileOf (take k (drop (i * 64) (a .store .now)))) width in
+    lookup-line (a .store .now) (a .country .now) (a .out .now) (a .class) (a .length .now) (set .before .before .before .if1 .left) (device-set set) (room .before .if3 .left) (room .if4 .left) _
+    (ap (λ (p : Profile). done p) profile ∙ found-here (a .store .now) (deviceOf (a .country .now) (a .class)) i (first found) (omega arith)) (c .before .before .put-line .ensures)
 
 pub lookup-image-spec : {M : Type 1} → statement M
 lookup-image-spec =
@@ -115,13 +134,15 @@ lookup-image-spec =
     returns-2
     returns-3
     returns-4
-    read-store-requires
-    lookup-requires
-    enum-known-p
-    put-line-requires
-    enum-told
-    enum-told-2
-    same-length
+    key-for-requires
+    find-slot-requires
     returns-5
-    returns-6
-    returns-7)
+    mul-at
+    add-end
+    sub-read-profile
+    part-read-profile-start
+    part-read-profile-end
+    read-profile-requires
+    put-line-requires
+    same-length
+    returns-6)
