@@ -80,12 +80,13 @@ find-slot-requires c κs = search needs
 
 returns-5 : tie.Need-returns-5
 returns-5 c =
+    let nowhere = c .if5 .taken in
     let found = c .before in
     let room = found .before .before in
     let set = room .before .before in
     let a = entry-found found .args in
     lookup-none (a .store .now) (a .country .now) (a .out .now) (a .class) (a .length .now) (set .before .before .before .if1 .left) (device-set set) (room .before .if3 .left) (room .if4 .left)
-    (found-none (a .store .now) (deviceOf (a .country .now) (a .class)) (found .find-slot .result) (first found) (c .if5 .taken))
+    (found-none (a .store .now) (deviceOf (a .country .now) (a .class)) (found .find-slot .result) (first found) (omega arith))
 
 mul-at : tie.Need-mul-at
 mul-at c = search needs
