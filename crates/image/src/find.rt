@@ -1,25 +1,9 @@
 // The slot of an image that holds a key, found without reading the profiles.
-use store::Device;
 use store::Key;
 ghost use mathlib.Core.Path.{_≡_};
-ghost use Prim.Native.Nat.{_<_};
 ghost use lib.ListN.{length};
-ghost use Rattle.store.specs.Keys.{deviceKey};
 ghost use Rattle.store.specs.Stored.{capacity, holding, firstSlot};
 ghost use Rattle.image.specs.Image.{profileSize, storeSize, slotOf, slotsOf};
-
-// What a device's profile is stored under.
-pub fn key_for(device: Device) -> Key
-    requires { ⌜ device .class < 256 ⌝ }
-    ensures { λ r. ⌜ r ≡ deviceKey device ⌝ }
-{
-    let country = device.country;
-    let class = device.class;
-    Key {
-        country: country,
-        class: class as u8,
-    }
-}
 
 // The slot of an image holds a profile of the key.
 fn slot_holds(slot: &[u8], key: Key) -> bool

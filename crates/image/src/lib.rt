@@ -4,7 +4,6 @@ pub mod get;
 pub mod put;
 
 use find::find_slot;
-use find::key_for;
 use get::read_profile;
 use profile::Country;
 use profile::Profile;
@@ -14,6 +13,7 @@ use profile::read_line;
 use profile::write_line;
 use put::write_profile;
 use store::Device;
+use store::device_key;
 use store::device_ok;
 ghost use mathlib.Core.Path.{_≡_};
 ghost use lib.ListN.{length};
@@ -98,7 +98,7 @@ pub fn lookup_image(
     if out.len() != 72 {
         return 1;
     }
-    let i = find_slot(store, key_for(device));
+    let i = find_slot(store, device_key(device));
     if i >= 16 {
         return 9;
     }

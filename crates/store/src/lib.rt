@@ -121,7 +121,8 @@ pub fn device_ok(device: Device) -> bool
     is_class(device.class)
 }
 
-fn device_key(device: Device) -> Key
+// What a device's profile is stored under.
+pub fn device_key(device: Device) -> Key
     requires { ⌜ device .class < 256 ⌝ }
     ensures { λ r. ⌜ r ≡ deviceKey device ⌝ }
 {

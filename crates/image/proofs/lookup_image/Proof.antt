@@ -42,7 +42,7 @@ first c =
     let device = c .before .before .before .before .before .before .device-of in
     let slots = slotsOf capacity (entry-found c .args .store .now) in
     c .find-slot .ensures
-    ∙ ap (λ (k : Key). firstSlot (holding k) slots) (c .before .key-for .ensures ∙ ap deviceKey (device .ensures))
+    ∙ ap (λ (k : Key). firstSlot (holding k) slots) (c .before .device-key .ensures ∙ ap deviceKey (device .ensures))
 
 returns : tie.Need-returns
 returns c =
@@ -70,8 +70,8 @@ returns-4 c =
     let a = entry (c .before .before .before) .args in
     lookup-line-size (a .store .now) (a .country .now) (a .out .now) (a .class) (a .length .now) (c .before .before .before .before .before .if1 .left) (device-set (c .before .before)) (c .before .if3 .left) (c .if4 .taken)
 
-key-for-requires : tie.Need-key-for-requires
-key-for-requires c κs =
+device-key-requires : tie.Need-device-key-requires
+device-key-requires c κs =
     let set = c .before .before in
     device-class-byte (set .before .before .device-of .result) (sym (set .before .device-ok .ensures) ∙ not-false _ (set .if2 .left))
 
@@ -135,7 +135,7 @@ lookup-image-spec =
     returns-2
     returns-3
     returns-4
-    key-for-requires
+    device-key-requires
     find-slot-requires
     returns-5
     mul-at
