@@ -16,6 +16,7 @@ ghost use Rattle.scheme.specs.Key.{matrix as matrixOf, matrixDrawn, matrixCount
 ghost use Rattle.scheme.specs.Round.{maskExponents, maskValues, maskBlock};
 ghost use Rattle.scheme.specs.Sign.{firstChallenges, firstDrawn, secondChallenges, secondDrawn};
 ghost use Rattle.expand.specs.Expanded.{Expanded, ExpandedFrom};
+ghost use Rattle.expand.specs.Scratch.{Scratch};
 
 // The round i in two bytes, low byte first.
 pub fn round_number(i: usize) -> [u8; 2]
@@ -57,7 +58,7 @@ fn sampled3(
 
 // V of a public seed.
 pub fn matrix(p: Params, public: &[u8], block: &mut [u8], vs: &mut [u8]) -> bool
-    requires { ⌜ Sound p × (length (now block) ≡ p .matrix) × (length (now vs) ≡ matrixCount p + 8) ⌝ }
+    requires { ⌜ Scratch p (now block) (now vs) ⌝ }
     ensures { λ r. ⌜ Expanded (matrixDrawn p (now (public .entry))) (matrixCount p) (matrixOf p (now (public .entry))) r (now (vs .exit)) ⌝ }
 {
     let n = p.n;

@@ -5,11 +5,12 @@ ghost use mathlib.Core.List.{_++_};
 ghost use Prim.Native.Nat.{_+_, _*_, _≤_};
 ghost use lib.Dec.{T};
 ghost use lib.ListN.{length};
-ghost use Rattle.outcome.specs.Answer.{Answers};
 ghost use Rattle.parameters.specs.Sound.{Sound};
 ghost use Rattle.packing.specs.Packing.{allBelow, pack};
 ghost use Rattle.linear.specs.Linear.{syndrome, powers};
-ghost use Rattle.scheme.specs.Key.{matrixCount, keySize, makeKeyChecks, publicKey};
+ghost use Rattle.scheme.specs.Key.{matrixCount, keySize};
+ghost use Rattle.scheme.specs.Entries.{MakesKey};
+ghost use Rattle.expand.specs.Scratch.{Scratch};
 ghost use Rattle.keygen.specs.Material.{Material};
 
 // Both seeds, V and the key exponents of a private seed; false where a draw is short.
@@ -51,8 +52,8 @@ fn write_key(p: Params, public: &[u8], vs: &[u8], es: &[u8], key: &mut [u8])
 
 // The public key of a private seed into `key`; scratch for V and its block is lent.
 pub fn make_key(p: Params, private: &[u8], block: &mut [u8], vs: &mut [u8], key: &mut [u8]) -> u8
-    requires { ⌜ Sound p × (length (now block) ≡ p .matrix) × (length (now vs) ≡ matrixCount p + 8) ⌝ }
-    ensures { λ r. ⌜ Answers (makeKeyChecks p (now (private .entry)) (length (now (key .entry)))) (publicKey p (now (private .entry))) (now (key .entry)) r (now (key .exit)) ⌝ }
+    requires { ⌜ Scratch p (now block) (now vs) ⌝ }
+    ensures { λ r. ⌜ MakesKey p (now (private .entry)) (now (key .entry)) r (now (key .exit)) ⌝ }
 {
     let n = p.n;
     let k = p.k;

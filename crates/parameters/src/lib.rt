@@ -25,6 +25,48 @@ pub struct Params {
 }
 
 // Category 1 of document CROSS 1.1, R-SDP fast.
+pub const CATEGORY1: Params = Params {
+    n: 127,
+    k: 76,
+    t: 163,
+    w: 85,
+    digest: 32,
+    seed: 16,
+    rate: 168,
+    matrix: 3500,
+    exponents: 96,
+    mask: 140,
+    first: 196,
+    second: 400,
+};
+
+// The greatest sizes that code is used at (specs/Sound): local arrays have these lengths.
+pub const PLACES: usize = 256;
+
+pub const ROUNDS: usize = 512;
+
+pub const DIGEST: usize = 64;
+
+pub const TWO_DIGESTS: usize = 2 * DIGEST;
+
+// A drawn vector, with room for the rest of its last group.
+pub const DRAWN_PLACES: usize = PLACES + 8;
+
+pub const DRAWN_ROUNDS: usize = ROUNDS + 8;
+
+// Packed vectors.
+pub const PACKED_VALUES: usize = PLACES * 7 / 8;
+
+pub const PACKED_EXPONENTS: usize = PLACES * 3 / 8;
+
+pub const PACKED_CHALLENGES: usize = ROUNDS * 7 / 8;
+
+// The block of a draw of exponents, mask values or first challenges; and that of the second challenge.
+pub const BLOCK: usize = 384;
+
+pub const SECOND_BLOCK: usize = 1024;
+
+// The same as a value.
 pub fn category1() -> Params
     ensures { λ r. ⌜ r ≡ numbers1 ⌝ }
 {

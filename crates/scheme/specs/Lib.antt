@@ -5,3 +5,4 @@ pub mod Sign
 pub mod Verify
 pub mod Examine
 pub mod Duty
+pub mod Entries

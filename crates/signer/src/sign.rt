@@ -10,9 +10,11 @@ ghost use lib.ListN.{length};
 ghost use Rattle.outcome.specs.Answer.{Answers};
 ghost use Rattle.parameters.specs.Sound.{Sound};
 ghost use Rattle.scheme.specs.Key.{matrixCount};
-ghost use Rattle.scheme.specs.Sign.{signatureSize, signChecks, signature, signatureFrom, signDraws, roundSeed};
+ghost use Rattle.scheme.specs.Sign.{signatureSize, signatureFrom, signDraws, roundSeed};
+ghost use Rattle.scheme.specs.Entries.{Signs};
 ghost use Rattle.packing.specs.Vector.{Vector};
 ghost use Rattle.signer.specs.State.{stateSize, States, Replied, responsesDigest};
+ghost use Rattle.signer.specs.Scratch.{SignScratch};
 
 // From c and the first challenges on: h, the second challenges, and the signature.
 fn reply(
@@ -99,9 +101,8 @@ pub fn sign(
     states: &mut [u8],
     sig: &mut [u8],
 ) -> u8
-    requires { ⌜ Sound p × (length (now block) ≡ p .matrix) × (length (now vs) ≡ matrixCount p + 8) × (length (now seeds) ≡ p .t * p .seed) × (length (now states) ≡ p .t * stateSize p) ⌝ }
-    ensures { λ r. ⌜ Answers (signChecks p (now (private .entry)) (now (master .entry)) (now (salt .entry)) (now (msg .entry)) (length (now (sig .entry))))
-        (signature p (now (private .entry)) (now (master .entry)) (now (salt .entry)) (now (msg .entry)))
+    requires { ⌜ SignScratch p (now block) (now vs) (now seeds) (now states) ⌝ }
+    ensures { λ r. ⌜ Signs p (now (private .entry)) (now (master .entry)) (now (salt .entry)) (now (msg .entry))
         (now (sig .entry)) r (now (sig .exit)) ⌝ }
 {
     let n = p.n;

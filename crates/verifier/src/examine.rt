@@ -11,7 +11,9 @@ ghost use Rattle.outcome.specs.Answer.{firstRefusal};
 ghost use Rattle.parameters.specs.Sound.{Sound};
 ghost use Rattle.scheme.specs.Key.{matrixCount};
 ghost use Rattle.scheme.specs.Round.{replySize};
-ghost use Rattle.scheme.specs.Examine.{examine as examineOf, replySized};
+ghost use Rattle.scheme.specs.Examine.{replySized};
+ghost use Rattle.scheme.specs.Entries.{VerifiesRound};
+ghost use Rattle.expand.specs.Scratch.{Scratch};
 ghost use Rattle.packing.specs.Vector.{Vector};
 ghost use Rattle.verifier.specs.Steps.{sizeChecks, numberChecks, roundChecks};
 
@@ -133,9 +135,10 @@ pub fn examine(
     block: &mut [u8],
     vs: &mut [u8],
 ) -> u8
-    requires { ⌜ Sound p × (length (now block) ≡ p .matrix) × (length (now vs) ≡ matrixCount p + 8) ⌝ }
+    requires { ⌜ Scratch p (now block) (now vs) ⌝ }
     ensures { λ r.
-        ⌜ r ≡ examineOf p (now (key .entry)) (now (salt .entry)) i (now (c0 .entry)) (now (c1 .entry)) beta (now (h .entry)) challenge (now (reply .entry)) ⌝ }
+        ⌜ VerifiesRound p (now (key .entry)) (now (salt .entry)) i (now (c0 .entry)) (now (c1 .entry)) beta
+        (now (h .entry)) challenge (now (reply .entry)) r ⌝ }
 {
     let refusal = sizes(p, key, salt, c0, c1, h, challenge, reply);
     if refusal != 0 {

@@ -9,7 +9,9 @@ ghost use Rattle.outcome.specs.Answer.{firstRefusal};
 ghost use Rattle.parameters.specs.Sound.{Sound};
 ghost use Rattle.scheme.specs.Key.{matrixCount};
 ghost use Rattle.scheme.specs.Sign.{signatureSize};
-ghost use Rattle.scheme.specs.Verify.{verify as verifyOf, pieceChecks, saltOf, cOf, hOf, roundsOf};
+ghost use Rattle.scheme.specs.Verify.{pieceChecks, saltOf, cOf, hOf, roundsOf};
+ghost use Rattle.scheme.specs.Entries.{Verifies};
+ghost use Rattle.expand.specs.Scratch.{Scratch};
 ghost use Rattle.packing.specs.Vector.{Vector};
 ghost use Rattle.verifier.specs.Steps.{lengthChecks};
 
@@ -61,8 +63,8 @@ fn pieces(p: Params, vs: &[u8], s: &[u8], msg: &[u8], sig: &[u8]) -> u8
 }
 
 pub fn verify(p: Params, key: &[u8], msg: &[u8], sig: &[u8], block: &mut [u8], vs: &mut [u8]) -> u8
-    requires { ⌜ Sound p × (length (now block) ≡ p .matrix) × (length (now vs) ≡ matrixCount p + 8) ⌝ }
-    ensures { λ r. ⌜ r ≡ verifyOf p (now (key .entry)) (now (msg .entry)) (now (sig .entry)) ⌝ }
+    requires { ⌜ Scratch p (now block) (now vs) ⌝ }
+    ensures { λ r. ⌜ Verifies p (now (key .entry)) (now (msg .entry)) (now (sig .entry)) r ⌝ }
 {
     let refusal = sizes(p, key.len(), msg.len(), sig.len());
     if refusal != 0 {
