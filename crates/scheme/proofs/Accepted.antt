@@ -13,7 +13,7 @@ use Rattle.outcome.specs.Lists.{flat}
 use Rattle.outcome.proofs.Checks.{passed-front}
 use Rattle.parameters.specs.declared.Params.{Params}
 use Rattle.parameters.specs.Sound.{Sound}
-use Rattle.scheme.specs.Strings.{string9, commitment}
+use Rattle.scheme.specs.Strings.{string9, joined}
 use Rattle.scheme.specs.Key.{
   publicSeed,
   matrix,
@@ -28,7 +28,7 @@ use Rattle.scheme.specs.Key.{
 }
 use Rattle.scheme.specs.Sign.{messageMax, signatureSize, roundSeeds, roundSeed, signature, signatureFrom, signChecks}
 use Rattle.scheme.specs.Sign as sign
-use Rattle.scheme.specs.Verify.{pieceChecks, saltOf, cOf, hOf, roundsOf, verifyChecks, verify}
+use Rattle.scheme.specs.Verify.{pieceChecks, saltOf, cOf, hOf, roundsOf, verifySizes, verifyChecks, verify}
 use Rattle.scheme.specs.Duty.{Accepted}
 use Rattle.scheme.proofs.Keyed.{Signed, signed}
 use Rattle.scheme.proofs.PartsStrings.{length-bytes, length-digest}
@@ -81,14 +81,14 @@ module _ (p : Params) (key msg sig : List ℕ) where
 
   verified : length key ≡ keySize p → length msg ≤ messageMax → length sig ≡ signatureSize p →
       firstRefusal (keyFields p key) ≡ 0 → firstRefusal matrixDraw ≡ 0 → firstRefusal pieces ≡ 0 → verify p key msg sig ≡ 0
-  unfolding verify verifyChecks
+  unfolding verify verifyChecks verifySizes
   verified key-sized msg-sized sig-sized fields drawn pass =
       rw (
         eq-eqb (length key) (keySize p) key-sized,
         le-leb (length msg) messageMax msg-sized,
         eq-eqb (length sig) (signatureSize p) sig-sized,
       )
-      (passed-front (keyFields p key ++ matrixDraw) pieces (passed-front (keyFields p key) matrixDraw fields ∙ drawn) ∙ pass)
+      (passed-front (keyFields p key) (matrixDraw ++ pieces) fields ∙ (passed-front matrixDraw pieces drawn ∙ pass))
 
 -- what signing answered 0 for, verified
 module _ (p : Params) (sound : Sound p) (private master salt msg : List ℕ) (ok : Signed p private master salt msg) where
@@ -101,14 +101,17 @@ module _ (p : Params) (sound : Sound p) (private master salt msg : List ℕ) (ok
   abbrev seed : ℕ → List ℕ
   seed = roundSeed p master salt
 
+  abbrev root : List ℕ
+  root = sign.c0OfAll p vs key seed salt
+
   abbrev c : List ℕ
-  c = sign.c p vs key seed salt msg
+  c = sign.c p seed salt root
 
   abbrev h : List ℕ
-  h = sign.h p vs key seed salt msg
+  h = sign.h p seed salt root msg
 
   abbrev rounds : List ℕ
-  rounds = flat (sign.part p vs key seed salt msg) (p .t)
+  rounds = flat (sign.part p vs key seed salt (sign.β p seed salt root msg) (sign.b p seed salt root msg)) (p .t)
 
   public : Read p private
   public = read p sound private (ok .key-drawn)
@@ -117,7 +120,7 @@ module _ (p : Params) (sound : Sound p) (private master salt msg : List ℕ) (ok
   seeded = round-sized p sound master salt
 
   cuts : Cut p salt c h rounds (salt ++ c ++ h ++ rounds)
-  unfolding sign.c sign.h commitment
+  unfolding sign.c sign.h sign.hOfAll joined
   cuts = cut p salt c h rounds (ok .salt-sized) (length-digest p sound _) (length-digest p sound _)
 
   sized : length (salt ++ c ++ h ++ rounds) ≡ signatureSize p

@@ -8,21 +8,18 @@ use lib.Dec.{eqb}
 use lib.ListN.{length, getD, length-append}
 use lib.Seq.{take-at, drop-at}
 use Rattle.outcome.specs.Answer.{firstRefusal, pick}
-use Rattle.outcome.specs.Lists.{flat, total}
-use Rattle.outcome.proofs.Lists.{length-flat, flat-part, total-first}
-use Rattle.packing.specs.Packing.{pack}
+use Rattle.outcome.specs.Lists.{flat}
+use Rattle.outcome.proofs.Lists.{length-flat, flat-part}
 use Rattle.packing.proofs.Below.{Below}
 use Rattle.parameters.specs.declared.Params.{Params}
 use Rattle.parameters.specs.Sound.{Sound}
-use Rattle.sampling.specs.Weight.{weight}
-use Rattle.sampling.proofs.Shuffling.{length-shuffle, weight-shuffle}
-use Rattle.linear.specs.Linear.{powers, syndrome, response, opened}
+use Rattle.linear.specs.Linear.{powers, syndrome, opened}
 use Rattle.linear.proofs.Sizes.{length-transformation}
 use Rattle.linear.proofs.Ranges.{below-transformation}
 use Rattle.linear.proofs.Honest.{opened-transformation}
-use Rattle.scheme.specs.Strings.{digest, string2}
-use Rattle.scheme.specs.Round.{maskExponents, roundDraws, replySize, replyChecks}
-use Rattle.scheme.specs.Sign.{firstChallenges, secondBlock, secondChallenges, partSize}
+use Rattle.scheme.specs.Strings.{digest}
+use Rattle.scheme.specs.Round.{maskExponents, roundDraws, replySize}
+use Rattle.scheme.specs.Sign.{partSize}
 use Rattle.scheme.specs.Sign as sign
 use Rattle.scheme.specs.Verify as verify
 use Rattle.scheme.proofs.PartsStrings.{length-digest, below-mask, length-mask}
@@ -45,43 +42,30 @@ pick-digest : (p : Params) (one : Bool) (a b : List ℕ) → digest p (pick one 
 pick-digest p true a b = refl
 pick-digest p false a b = refl
 
--- a total over all places of a list
-total-places : (f : ℕ → ℕ) (xs : List ℕ) → total (λ j. f (getD xs j 0)) (length xs) ≡ weight f xs
-unfolding total weight
-total-places f [] = refl
-total-places f (x ∷ xs) =
-    total-first (λ j. f (getD (x ∷ xs) j 0)) (length xs) ∙ ap (λ (rest : ℕ). f x + rest) (total-places f xs)
-
--- Any seeds of the rounds, and any c and h: how they are made of the c0(i), c1(i) and h(i) does not matter here.
-module _ (p : Params) (vs key : List ℕ) (seed : ℕ → List ℕ) (salt msg c h : List ℕ) where
-  abbrev first : List ℕ
-  first = firstChallenges p c salt msg
-
-  abbrev second : List ℕ
-  second = secondChallenges p c first h salt msg
-
+-- Any seeds of the rounds, and any challenges: how c and h are made of the c0(i), c1(i) and h(i) does not matter here.
+module _ (p : Params) (vs key : List ℕ) (seed : ℕ → List ℕ) (salt β b : List ℕ) where
   -- the first and the second challenge of round j
   abbrev pub βⱼ : ℕ → ℕ
-  βⱼ j = getD first j 0
+  βⱼ j = getD β j 0
 
   abbrev pub bⱼ : ℕ → ℕ
-  bⱼ j = getD second j 0
+  bⱼ j = getD b j 0
 
   -- the signer's commitments, transformation and response of round j, and its part
   abbrev pub c0ⱼ : ℕ → List ℕ
-  c0ⱼ = sign.c0 p vs key seed salt msg
+  c0ⱼ = sign.c0 p vs key seed salt
 
   abbrev pub c1ⱼ : ℕ → List ℕ
-  c1ⱼ = sign.c1 p vs key seed salt msg
+  c1ⱼ = sign.c1 p seed salt
 
   abbrev pub σⱼ : ℕ → List ℕ
-  σⱼ = sign.σ p vs key seed salt msg
+  σⱼ = sign.σ p key seed salt
 
   abbrev pub yⱼ : ℕ → List ℕ
-  yⱼ j = response (βⱼ j) (sign.u′ p vs key seed salt msg j) (sign.e′ p vs key seed salt msg j)
+  yⱼ = sign.y p seed salt β
 
   abbrev pub partⱼ : ℕ → List ℕ
-  partⱼ j = pick (eqb (bⱼ j) 1) (seed j ++ c0ⱼ j) (pack 7 (yⱼ j) ++ pack 3 (σⱼ j) ++ c1ⱼ j)
+  partⱼ = sign.part p vs key seed salt β b
 
   abbrev pub rounds : List ℕ
   rounds = flat partⱼ (p .t)
@@ -91,10 +75,10 @@ module _ (p : Params) (vs key : List ℕ) (seed : ℕ → List ℕ) (salt msg c 
 
   -- what the verifier finds in round j: the signer's commitments and h(i), and a reply that passes
   pub record Agreed (j : ℕ) : Type 0 where
-    pub c0 : verify.c0 p vs s salt c h rounds msg j ≡ c0ⱼ j
-    pub c1 : verify.c1 p vs s salt c h rounds msg j ≡ c1ⱼ j
-    pub hᵢ : verify.hᵢ p vs s salt c h rounds msg j ≡ digest p (string2 (yⱼ j))
-    pub passes : firstRefusal (replyChecks p (bⱼ j) (verify.reply p vs s salt c h rounds msg j) salt (j + 1)) ≡ 0
+    pub c0 : verify.c0At p vs s salt rounds β b j ≡ c0ⱼ j
+    pub c1 : verify.c1At p vs s salt rounds β b j ≡ c1ⱼ j
+    pub hᵢ : verify.hAt p vs s salt rounds β b j ≡ sign.hᵢ p seed salt β j
+    pub passes : firstRefusal (verify.checksAt p vs s salt rounds β b j) ≡ 0
 
   module _
       (sound : Sound p)
@@ -131,7 +115,7 @@ module _ (p : Params) (vs key : List ℕ) (seed : ℕ → List ℕ) (salt msg c 
 
       -- a part is reply and commitment
       split : (j : ℕ) → partⱼ j ≡ replyⱼ j ++ broughtⱼ j
-      unfolding sign.e′ sign.u′
+      unfolding sign.part sign.y sign.e′ sign.u′
       split j = pick-append (eqb (bⱼ j) 1) (seed j) (reply0 p vs (σⱼ j) (seed j) salt (j + 1) (βⱼ j)) (c0ⱼ j) (c1ⱼ j)
 
       long-reply : (j : ℕ) → j < p .t → length (replyⱼ j) ≡ replySize p (bⱼ j)
@@ -146,52 +130,47 @@ module _ (p : Params) (vs key : List ℕ) (seed : ℕ → List ℕ) (salt msg c 
       long-part j l = rw (split j, length-append (replyⱼ j) (broughtⱼ j), long-reply j l, long-brought j)
 
       -- the verifier's reading of round j
-      parts : (j : ℕ) → j < p .t → verify.partOf p vs s salt c h rounds msg j ≡ replyⱼ j ++ broughtⱼ j
-      unfolding verify.partOf verify.b verify.β
+      parts : (j : ℕ) → j < p .t → verify.partAt p vs s salt rounds β b j ≡ replyⱼ j ++ broughtⱼ j
+      unfolding verify.partAt
       parts j l =
           rw (← append-nil rounds) (flat-part partⱼ (λ j. partSize p (bⱼ j)) (p .t) long-part [] j l) ∙ split j
 
-      replies : (j : ℕ) → j < p .t → verify.reply p vs s salt c h rounds msg j ≡ replyⱼ j
-      unfolding verify.reply verify.b verify.β
-      replies j l = rw (parts j l) (take-at (replyⱼ j) (broughtⱼ j) (replySize p (bⱼ j)) (long-reply j l))
+      -- reply and commitment of such a part, whatever else
+      module _ (j : ℕ) (l : j < p .t) where
+        abbrev whole : List ℕ
+        whole = replyⱼ j ++ broughtⱼ j
 
-      brings : (j : ℕ) → j < p .t → verify.brought p vs s salt c h rounds msg j ≡ broughtⱼ j
-      unfolding verify.brought verify.b verify.β
-      brings j l = rw (parts j l) (drop-at (replyⱼ j) (broughtⱼ j) (replySize p (bⱼ j)) (long-reply j l))
+        replies : verify.replyIn p vs s salt (j + 1) (βⱼ j) (bⱼ j) whole ≡ replyⱼ j
+        unfolding verify.replyIn
+        replies = take-at (replyⱼ j) (broughtⱼ j) (replySize p (bⱼ j)) (long-reply j l)
 
-      gives : (j : ℕ) → j < p .t → verify.given p vs s salt c h rounds msg j ≡ pick (eqb (bⱼ j) 1) (c1ⱼ j) (c0ⱼ j)
-      unfolding verify.given verify.b verify.β sign.c0 sign.c1 sign.s̃ sign.e′ sign.u′
-      gives j l =
-          rw (replies j l, replied-at j l .string)
-          (pick-digest p (eqb (bⱼ j) 1) _ _)
+        brings : verify.broughtIn p vs s salt (j + 1) (βⱼ j) (bⱼ j) whole ≡ broughtⱼ j
+        unfolding verify.broughtIn
+        brings = drop-at (replyⱼ j) (broughtⱼ j) (replySize p (bⱼ j)) (long-reply j l)
 
-      c0-agrees : (j : ℕ) → j < p .t → verify.c0 p vs s salt c h rounds msg j ≡ c0ⱼ j
-      unfolding verify.c0 verify.b verify.β
-      c0-agrees j l = rw (brings j l, gives j l) (pick-first (eqb (bⱼ j) 1) (c0ⱼ j) (c1ⱼ j))
+        gives : verify.givenIn p vs s salt (j + 1) (βⱼ j) (bⱼ j) whole ≡ pick (eqb (bⱼ j) 1) (c1ⱼ j) (c0ⱼ j)
+        unfolding verify.givenIn sign.c0 sign.c1 sign.s̃ sign.e′ sign.u′
+        gives = rw (replies, replied-at j l .string) (pick-digest p (eqb (bⱼ j) 1) _ _)
 
-      c1-agrees : (j : ℕ) → j < p .t → verify.c1 p vs s salt c h rounds msg j ≡ c1ⱼ j
-      unfolding verify.c1 verify.b verify.β
-      c1-agrees j l = rw (brings j l, gives j l) (pick-first (eqb (bⱼ j) 1) (c1ⱼ j) (c0ⱼ j))
+        c0-agrees : verify.c0At p vs s salt rounds β b j ≡ c0ⱼ j
+        unfolding verify.c0At verify.c0In
+        c0-agrees = rw (parts j l, brings, gives) (pick-first (eqb (bⱼ j) 1) (c0ⱼ j) (c1ⱼ j))
 
-      hᵢ-agrees : (j : ℕ) → j < p .t → verify.hᵢ p vs s salt c h rounds msg j ≡ digest p (string2 (yⱼ j))
-      unfolding verify.hᵢ verify.b verify.β sign.e′ sign.u′
-      hᵢ-agrees j l = rw (replies j l, replied-at j l .response)
+        c1-agrees : verify.c1At p vs s salt rounds β b j ≡ c1ⱼ j
+        unfolding verify.c1At verify.c1In
+        c1-agrees = rw (parts j l, brings, gives) (pick-first (eqb (bⱼ j) 1) (c1ⱼ j) (c0ⱼ j))
+
+        hᵢ-agrees : verify.hAt p vs s salt rounds β b j ≡ sign.hᵢ p seed salt β j
+        unfolding verify.hAt verify.hIn sign.hᵢ sign.y sign.e′ sign.u′
+        hᵢ-agrees = rw (parts j l, replies, replied-at j l .response)
+
+        passes : firstRefusal (verify.checksAt p vs s salt rounds β b j) ≡ 0
+        unfolding verify.checksAt verify.checksIn
+        passes = rw (parts j l, replies) (replied-at j l .passes)
 
       pub agreed : (j : ℕ) → j < p .t → Agreed j
-      agreed j l =
-          record {
-            c0 = c0-agrees j l;
-            c1 = c1-agrees j l;
-            hᵢ = hᵢ-agrees j l;
-            passes = rw (replies j l) (replied-at j l .passes);
-          }
+      agreed j l = record { c0 = c0-agrees j l; c1 = c1-agrees j l; hᵢ = hᵢ-agrees j l; passes = passes j l }
 
-      -- the rounds have the size that the ones of the second challenge give
-      pub length-rounds : length rounds ≡ p .w * partSize p 1 + (p .t - p .w) * partSize p 0
-      unfolding secondChallenges
-      length-rounds =
-          let block : List ℕ = secondBlock p c first h salt msg in
-          length-flat partⱼ (λ j. partSize p (bⱼ j)) (p .t) long-part ∙
-          ap (λ (t : ℕ). total (λ j. partSize p (bⱼ j)) t) (sym (length-shuffle (p .t) (p .w) block (sound .w≤t))) ∙
-          total-places (λ (b : ℕ). partSize p b) second ∙
-          weight-shuffle (λ (b : ℕ). partSize p b) (p .t) (p .w) block (sound .w≤t)
+      -- the rounds have the size of their parts
+      pub length-rounds : length rounds ≡ verify.offset p b (p .t)
+      length-rounds = length-flat partⱼ (λ j. partSize p (bⱼ j)) (p .t) long-part

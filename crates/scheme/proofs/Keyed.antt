@@ -10,7 +10,7 @@ use Rattle.outcome.specs.Answer.{Check, firstRefusal, Passed}
 use Rattle.outcome.proofs.Checks.{passed, answered, both-passed}
 use Rattle.parameters.specs.declared.Params.{Params}
 use Rattle.scheme.specs.Key.{publicSeed, matrix, keyExponents, keySize, keyDraws, makeKeyChecks}
-use Rattle.scheme.specs.Sign.{messageMax, roundSeed, signDraws, signChecks}
+use Rattle.scheme.specs.Sign.{messageMax, roundSeed, signDraws, signSizes, signChecks}
 use Rattle.scheme.specs.Duty.{Keyed}
 
 -- the draws that signing takes behind those of the key
@@ -28,7 +28,7 @@ pub record Signed (p : Params) (private master salt msg : List ℕ) : Type 0 whe
 
 pub signed : (p : Params) (private master salt msg : List ℕ) (lent : ℕ) →
     firstRefusal (signChecks p private master salt msg lent) ≡ 0 → Signed p private master salt msg
-unfolding signChecks
+unfolding signChecks signSizes
 signed p private master salt msg lent e =
     let all : Passed (signChecks p private master salt msg lent) = passed (signChecks p private master salt msg lent) e in
     let draws : List Check = drawsOf p private master salt msg in

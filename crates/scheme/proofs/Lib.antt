@@ -1,6 +1,7 @@
 pub mod PartsStrings
 pub mod PartsPacked
 pub mod Keyed
+pub mod Challenges
 pub mod AcceptedRound
 pub mod AcceptedRounds
 pub mod AcceptedPieces
@@ -10,3 +11,4 @@ pub mod OpensStrings
 pub mod OpensAnswers
 pub mod Opens
 pub mod Sizes
+pub mod Bounds

@@ -29,7 +29,7 @@ use Rattle.scheme.specs.Round.{
   replyFields,
   replyChecks,
 }
-use Rattle.scheme.specs.Examine.{examine, examineChecks}
+use Rattle.scheme.specs.Examine.{examine, examineChecks, examineSizes, examineNumbers, examineRound}
 use Rattle.scheme.specs.Duty.{committed, responded}
 use Rattle.scheme.proofs.OpensStrings.{Vector}
 
@@ -66,7 +66,8 @@ module _ (p : Params) (key salt : List ℕ) (i : ℕ) (c0 c1 : List ℕ) (β : �
     pub hash : h ≡ digest p (responded p salt i β 0 reply)
 
   pub replied0 : examine p key salt i c0 c1 β h 0 reply ≡ 0 → Replied0
-  unfolding examine examineChecks syndromeOf keyFields replyValues replyExponents replyFields replyChecks
+  unfolding examine examineChecks examineSizes examineNumbers examineRound syndromeOf keyFields replyValues replyExponents
+      replyFields replyChecks
   replied0 e =
       let checks : List Check = examineChecks p key salt i c0 c1 β h 0 reply in
       let all : Passed checks = passed checks e in
@@ -87,7 +88,7 @@ module _ (p : Params) (key salt : List ℕ) (i : ℕ) (c0 c1 : List ℕ) (β : �
     pub hash : h ≡ digest p (responded p salt i β 1 reply)
 
   pub replied1 : examine p key salt i c0 c1 β h 1 reply ≡ 0 → Replied1
-  unfolding examine examineChecks keyFields maskExponents maskValues exponentsFrom exponentsDrawn roundDraws replyChecks
+  unfolding examine examineChecks examineSizes examineNumbers examineRound keyFields maskExponents maskValues exponentsFrom exponentsDrawn roundDraws replyChecks
   replied1 e =
       let checks : List Check = examineChecks p key salt i c0 c1 β h 1 reply in
       let all : Passed checks = passed checks e in

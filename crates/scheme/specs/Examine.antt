@@ -18,29 +18,42 @@ module _ (p : Params) where
   abbrev pub replySized : ℕ → List ℕ → Bool
   replySized b reply = pick (leb b 1) (eqb (length reply) (replySize p b)) true
 
-  unfoldable pub examineChecks : List ℕ → List ℕ → ℕ → List ℕ → List ℕ → ℕ → List ℕ → ℕ → List ℕ → List Check
-  examineChecks key salt i c0 c1 β h b reply =
+  -- the sizes
+  unfoldable pub examineSizes : List ℕ → List ℕ → List ℕ → List ℕ → List ℕ → ℕ → List ℕ → List Check
+  examineSizes key salt c0 c1 h b reply =
       bad-size unless eqb (length key) (keySize p) ∷
       bad-size unless eqb (length salt) (p .digest) ∷
       bad-size unless eqb (length c0) (p .digest) ∷
       bad-size unless eqb (length c1) (p .digest) ∷
       bad-size unless eqb (length h) (p .digest) ∷
       bad-size unless replySized b reply ∷
-      [] ++
-      keyFields p key ++
-      (bad-field unless leb 1 i ∷
+      []
+
+  -- the numbers i, β and challenge
+  unfoldable pub examineNumbers : ℕ → ℕ → ℕ → List Check
+  examineNumbers i β b =
+      bad-field unless leb 1 i ∷
       bad-field unless leb i (p .t) ∷
       bad-field unless leb 1 β ∷
       bad-field unless leb β 126 ∷
       bad-field unless leb b 1 ∷
-      short unless matrixDrawn p (seedOf p key) ∷
-      []) ++
+      []
+
+  -- the round: the reply, then the matching commitment and h(i)
+  unfoldable pub examineRound : (vs s salt : List ℕ) (i β b : ℕ) (reply matching h : List ℕ) → List Check
+  examineRound vs s salt i β b reply matching h =
       replyChecks p b reply salt i ++
-      (differs unless
-      same (pick (eqb b 1) c1 c0)
-      (digest p (replyString p (matrix p (seedOf p key)) (syndromeOf p key) b β reply salt i)) ∷
+      (differs unless same matching (digest p (replyString p vs s b β reply salt i)) ∷
       differs unless same h (digest p (string2 (replyResponse p b β reply salt i))) ∷
       [])
+
+  unfoldable pub examineChecks : List ℕ → List ℕ → ℕ → List ℕ → List ℕ → ℕ → List ℕ → ℕ → List ℕ → List Check
+  examineChecks key salt i c0 c1 β h b reply =
+      examineSizes key salt c0 c1 h b reply ++
+      (keyFields p key ++
+      (examineNumbers i β b ++
+      (short unless matrixDrawn p (seedOf p key) ∷
+      examineRound (matrix p (seedOf p key)) (syndromeOf p key) salt i β b reply (pick (eqb b 1) c1 c0) h)))
 
   -- the round examiner's answer
   unfoldable pub examine : List ℕ → List ℕ → ℕ → List ℕ → List ℕ → ℕ → List ℕ → ℕ → List ℕ → ℕ

@@ -16,7 +16,8 @@ use Rattle.linear.specs.Linear.{syndrome, scaled, response, transformation}
 use Rattle.scheme.specs.Strings.{
   bytesFrom,
   digest,
-  commitment,
+  aggregate,
+  joined,
   string0,
   string1,
   string2,
@@ -67,60 +68,81 @@ module _ (p : Params) where
   unfoldable pub roundSeed : List ℕ → List ℕ → ℕ → List ℕ
   roundSeed master salt j = take (p .seed) (drop (p .seed * j) (roundSeeds master salt))
 
-  -- The signature under V and the key exponents, for any seeds of the rounds.
-  module _ (vs key : List ℕ) (seed : ℕ → List ℕ) (salt msg : List ℕ) where
-    -- e', u', σ and s̃ of round j
+  -- Round j, for any seeds of the rounds: e', u' and c1(i).
+  module _ (seed : ℕ → List ℕ) (salt : List ℕ) where
     unfoldable pub e′ : ℕ → List ℕ
     e′ j = maskExponents p (seed j) salt (j + 1)
 
     unfoldable pub u′ : ℕ → List ℕ
     u′ j = maskValues p (seed j) salt (j + 1)
 
-    unfoldable pub σ : ℕ → List ℕ
-    σ j = transformation key (e′ j)
-
-    unfoldable pub s̃ : ℕ → List ℕ
-    s̃ j = syndrome (p .k) vs (scaled (σ j) (u′ j))
-
-    -- c0(i), c1(i) and c
-    unfoldable pub c0 : ℕ → List ℕ
-    c0 j = digest p (string0 (s̃ j) (σ j) salt (j + 1))
-
     unfoldable pub c1 : ℕ → List ℕ
     c1 j = digest p (string1 (u′ j) (e′ j) salt (j + 1))
 
+    -- the draws: round after round
+    unfoldable pub seedDraws : List Check
+    seedDraws = flat (λ j. roundDraws p (seed j) salt (j + 1)) (p .t)
+
+    -- under first challenges β: y, h(i), and h of all rounds
+    module _ (β : List ℕ) where
+      unfoldable pub y : ℕ → List ℕ
+      y j = response (getD β j 0) (u′ j) (e′ j)
+
+      unfoldable pub hᵢ : ℕ → List ℕ
+      hᵢ j = digest p (string2 (y j))
+
+      unfoldable pub hOfAll : List ℕ
+      hOfAll = digest p (string6 (flat hᵢ (p .t)))
+
+  -- Under the key exponents: σ.
+  unfoldable pub σ : (key : List ℕ) (seed : ℕ → List ℕ) (salt : List ℕ) → ℕ → List ℕ
+  σ key seed salt j = transformation key (e′ seed salt j)
+
+  -- Under V as well: s̃, c0(i), and the aggregate of all c0(i).
+  module _ (vs key : List ℕ) (seed : ℕ → List ℕ) (salt : List ℕ) where
+    unfoldable pub s̃ : ℕ → List ℕ
+    s̃ j = syndrome (p .k) vs (scaled (σ key seed salt j) (u′ seed salt j))
+
+    unfoldable pub c0 : ℕ → List ℕ
+    c0 j = digest p (string0 (s̃ j) (σ key seed salt j) salt (j + 1))
+
+    unfoldable pub c0OfAll : List ℕ
+    c0OfAll = aggregate p (flat c0 (p .t))
+
+    -- the part of round j under the challenges β and b: seed and c0(i) under 1; y, σ and c1(i) under 0
+    unfoldable pub part : (β b : List ℕ) → ℕ → List ℕ
+    part β b j =
+        pick (eqb (getD b j 0) 1) (seed j ++ c0 j) (pack 7 (y seed salt β j) ++ pack 3 (σ key seed salt j) ++ c1 seed salt j)
+
+  -- From an aggregate of the c0(i) on: c; with a message the first challenges, h and the second challenges.
+  module _ (seed : ℕ → List ℕ) (salt root : List ℕ) where
     unfoldable pub c : List ℕ
-    c = commitment p (flat c0 (p .t)) (flat c1 (p .t))
+    c = joined p root (flat (c1 seed salt) (p .t))
 
-    -- the first challenges, the responses y, h(i) and h
-    unfoldable pub β : List ℕ
-    β = firstChallenges c salt msg
+    module _ (msg : List ℕ) where
+      unfoldable pub β : List ℕ
+      β = firstChallenges c salt msg
 
-    unfoldable pub y : ℕ → List ℕ
-    y j = response (getD β j 0) (u′ j) (e′ j)
+      unfoldable pub h : List ℕ
+      h = hOfAll seed salt β
 
-    unfoldable pub hᵢ : ℕ → List ℕ
-    hᵢ j = digest p (string2 (y j))
+      unfoldable pub b : List ℕ
+      b = secondChallenges c β h salt msg
 
-    unfoldable pub h : List ℕ
-    h = digest p (string6 (flat hᵢ (p .t)))
+      -- the draws: the first, then the second challenges
+      unfoldable pub challengeDraws : List Check
+      challengeDraws = short unless firstDrawn c salt msg ∷ short unless secondDrawn c β h salt msg ∷ []
 
-    -- the second challenges
-    unfoldable pub b : List ℕ
-    b = secondChallenges c β h salt msg
-
-    -- the part of round j: seed and c0(i) under 1; y, σ and c1(i) under 0
-    unfoldable pub part : ℕ → List ℕ
-    part j = pick (eqb (getD b j 0) 1) (seed j ++ c0 j) (pack 7 (y j) ++ pack 3 (σ j) ++ c1 j)
-
+  -- The signature under V and the key exponents, for any seeds of the rounds: salt, c, h, then the parts.
+  module _ (vs key : List ℕ) (seed : ℕ → List ℕ) (salt msg : List ℕ) where
     unfoldable pub signatureFrom : List ℕ
-    signatureFrom = salt ++ c ++ h ++ flat part (p .t)
+    signatureFrom =
+        let root : List ℕ = c0OfAll vs key seed salt in
+        salt ++ c seed salt root ++ h seed salt root msg
+        ++ flat (part vs key seed salt (β seed salt root msg) (b seed salt root msg)) (p .t)
 
-    -- the draws: round after round, then the first, then the second challenges
     unfoldable pub signDraws : List Check
-    signDraws =
-        flat (λ j. roundDraws p (seed j) salt (j + 1)) (p .t) ++
-        (short unless firstDrawn c salt msg ∷ short unless secondDrawn c β h salt msg ∷ [])
+    signDraws = seedDraws seed salt ++ challengeDraws seed salt (c0OfAll vs key seed salt) msg
 
   -- the signature of a message
   unfoldable pub signature : List ℕ → List ℕ → List ℕ → List ℕ → List ℕ
@@ -128,13 +150,17 @@ module _ (p : Params) where
       signatureFrom (matrix p (publicSeed p private)) (keyExponents p private) (roundSeed master salt) salt msg
 
   -- signing, with how many bytes are lent for the signature: sizes, key draws, then those of the signature
-  unfoldable pub signChecks : List ℕ → List ℕ → List ℕ → List ℕ → ℕ → List Check
-  signChecks private master salt msg lent =
+  unfoldable pub signSizes : List ℕ → List ℕ → List ℕ → List ℕ → ℕ → List Check
+  signSizes private master salt msg lent =
       bad-size unless eqb (length private) (p .digest) ∷
       bad-size unless eqb (length master) (p .seed) ∷
       bad-size unless eqb (length salt) (p .digest) ∷
       bad-size unless leb (length msg) messageMax ∷
       bad-size unless eqb lent signatureSize ∷
-      [] ++
-      keyDraws p private ++
-      signDraws (matrix p (publicSeed p private)) (keyExponents p private) (roundSeed master salt) salt msg
+      []
+
+  unfoldable pub signChecks : List ℕ → List ℕ → List ℕ → List ℕ → ℕ → List Check
+  signChecks private master salt msg lent =
+      signSizes private master salt msg lent ++
+      (keyDraws p private ++
+      signDraws (matrix p (publicSeed p private)) (keyExponents p private) (roundSeed master salt) salt msg)

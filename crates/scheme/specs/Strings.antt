@@ -75,6 +75,10 @@ string12 private = 12 ∷ private
 unfoldable pub string13 : List ℕ → List ℕ
 string13 public = 13 ∷ public
 
--- c from the digests of all rounds: c = digest (5 ‖ digest (3 ‖ all c0(i)) ‖ digest (4 ‖ all c1(i)))
-unfoldable pub commitment : Params → List ℕ → List ℕ → List ℕ
-commitment p c0s c1s = digest p (string5 (digest p (string3 c0s)) (digest p (string4 c1s)))
+-- c0, the aggregate of all c0(i): the digest of 3 ‖ all c0(i)
+unfoldable pub aggregate : Params → List ℕ → List ℕ
+aggregate p c0s = digest p (string3 c0s)
+
+-- c, from an aggregate of the c0(i) and all c1(i): the digest of 5 ‖ c0 ‖ c1, c1 being the digest of 4 ‖ all c1(i)
+unfoldable pub joined : Params → List ℕ → List ℕ → List ℕ
+joined p c0 c1s = digest p (string5 c0 (digest p (string4 c1s)))
