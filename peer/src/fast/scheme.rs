@@ -3,15 +3,13 @@
 use super::keccak::{shake, Sponge};
 use super::packing::{lay, read};
 use super::sampling::{draw, shuffle};
-use super::vectors::{less_times, powers, response, scaled, syndrome, transformation, Syndrome, Vector};
+use super::vectors::{
+    less_times, powers, response, scaled, syndrome, transformation, Syndrome, Vector, MATRIX, N, ROWS,
+};
 use crate::refusal::{demand, Refusal, BAD_FIELD, BAD_SIZE, MISMATCH, SHORT_DRAW};
 use crate::sizes::{Sizes, CATEGORY_1};
 
 const S: Sizes = CATEGORY_1;
-pub(super) const N: usize = S.n;
-pub(super) const K: usize = S.k;
-pub(super) const ROWS: usize = N - K;
-pub(super) const MATRIX: usize = ROWS * K;
 const T: usize = S.t;
 const SEED: usize = S.round_seed;
 const DIGEST: usize = S.digest;

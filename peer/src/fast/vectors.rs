@@ -1,6 +1,11 @@
 //! Vectors of category 1 as arrays of bytes, with sums in 32 bits.
 
-use super::scheme::{K, MATRIX, N, ROWS};
+use crate::sizes::CATEGORY_1;
+
+pub const N: usize = CATEGORY_1.n;
+pub const K: usize = CATEGORY_1.k;
+pub const ROWS: usize = N - K;
+pub const MATRIX: usize = ROWS * K;
 
 pub type Vector = [u8; N];
 pub type Syndrome = [u8; ROWS];
