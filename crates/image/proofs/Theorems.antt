@@ -5,25 +5,16 @@ use mathlib.Core.List.{List, [], _∷_}
 use native.Mathlib.Omega.{arith}
 use lib.Dec.{eqb, ltb}
 use borrow.Author.Tests.{ltb-true}
-use Rattle.profile.specs.Rules.{Field, fieldsOf, Rule, rules, fits, obeys, classes}
+use Rattle.profile.specs.Rules.{Field, fieldsOf, Rule, rules, fits, obeys}
 use Rattle.profile.specs.Line.{lineOf}
 use Rattle.profile.proofs.RuleLaws.{and-first, and-rest, top, range-bounds, parts}
 use Rattle.profile.proofs.Theorems.{writes-read}
-use Rattle.store.specs.Stored.{profilesIn}
-use Rattle.image.specs.Image.{slotsOf, Small}
-use Rattle.image.specs.Theorems.{ProfileAgain, ValidFits, LineAgain, StoreAgain, ZerosEmpty}
+use Rattle.image.specs.Image.{Small}
+use Rattle.image.specs.Theorems.{ProfileAgain, ValidFits, LineAgain}
 use Rattle.image.proofs.ImageLaws.{profile-again}
-use Rattle.image.proofs.StoreLaws.{store-again}
 
 pub profile-means : ProfileAgain
-profile-means p = profile-again 1 p
-
-pub store-means : StoreAgain
-store-means = store-again
-
-pub zeros-empty : ZerosEmpty
-unfolding slotsOf profilesIn
-zeros-empty = refl
+profile-means = profile-again
 
 -- ---- valid profiles
 
@@ -44,12 +35,13 @@ all-small (r ∷ rs) [] t e = tt
 all-small (r ∷ rs) (f ∷ fs) t e =
     let high = ltb-true (top (r .ranges)) 4294967296 (and-first (ltb (top (r .ranges)) 4294967296) _ t) in
     let within = range-bounds (r .ranges) (f .size) (and-rest (eqb (f .kind) (r .kind)) _ (and-first (fits r f) _ e)) in
-    (omega (arith, high, within .2), all-small rs fs (and-rest (ltb (top (r .ranges)) 4294967296) _ t) (and-rest (fits r f) _ e))
+    let others = all-small rs fs (and-rest (ltb (top (r .ranges)) 4294967296) _ t) (and-rest (fits r f) _ e) in
+    (omega (arith, high, within .2), others)
 
 pub valid-fits : ValidFits
 unfolding fieldsOf topsSmall AllSmall
-valid-fits p ok =
-    let s = all-small rules (fieldsOf p) refl (parts classes p ok .fields) in
+valid-fits table p ok =
+    let s = all-small rules (fieldsOf p) refl (parts table p ok .fields) in
     record {
       serial = s .0;
       volts = s .1 .0;
@@ -63,6 +55,6 @@ valid-fits p ok =
     }
 
 pub line-again : LineAgain
-line-again line p e =
-    let read = writes-read classes line p e in
-    ap lineOf (profile-means p (valid-fits p (read .1))) ∙ read .0
+line-again table line p e =
+    let read = writes-read table line p e in
+    ap lineOf (profile-means p (valid-fits table p (read .1))) ∙ read .0

@@ -22,7 +22,8 @@ word-again n h =
     div-div-eq-div-mul n 65536 256 ∙ sym (mod-eq-of-lt (div-lt-iff-lt-mul (omega arith) .1 h)) in
     let third : n / 65536 ≡ n / 16777216 % 256 * 256 + n / 65536 % 256 =
     sym (div-add-mod' (n / 65536) 256) ∙ ap (λ (q : ℕ). q * 256 + n / 65536 % 256) top in
-    join n (n % 256) (n / 256 % 256) (n / 65536 % 256) (n / 16777216 % 256) (n / 256) (n / 65536) (sym (div-add-mod' n 256)) second third
+    join n (n % 256) (n / 256 % 256) (n / 65536 % 256) (n / 16777216 % 256) (n / 256) (n / 65536)
+    (sym (div-add-mod' n 256)) second third
 
 -- four stores are a run of stores
 pub word-stored : (l : List ℕ) (at a b c d : ℕ)
@@ -33,9 +34,10 @@ word-stored l at a b c d =
     rw (add-one, second, third)
 
 -- the bytes of a number, stored one after the other
-pub word-put : (l : List ℕ) (at n a b c d : ℕ) → a ≡ n % 256 → b ≡ n / 256 % 256 → c ≡ n / 65536 % 256 → d ≡ n / 16777216 % 256
+pub word-appended : (l : List ℕ) (at n a b c d : ℕ)
+    → a ≡ n % 256 → b ≡ n / 256 % 256 → c ≡ n / 65536 % 256 → d ≡ n / 16777216 % 256
     → Appended l at (word n) (set (set (set (set l at a) (at + 1) b) (at + 2) c) (at + 3) d) (at + 4)
-word-put l at n a b c d first second third fourth =
+word-appended l at n a b c d first second third fourth =
     record {
       place = refl;
       stored = word-stored l at a b c d ∙ (λ i. sets l at (first i ∷ second i ∷ third i ∷ fourth i ∷ []));

@@ -1,28 +1,22 @@
--- Profiles and stores as bytes that C holds. A number is four bytes, low byte first. A profile is 64 bytes, the layout of a C
--- struct: used, country (2 bytes), class, then serial, volts, hertz, and for each of over-voltage, under-voltage, over-frequency and
--- under-frequency its kind, limit (without sign) and delay. A store is 16 of them. Every image means something.
+-- Profiles as bytes that C holds. A number is four bytes, low byte first. A profile is 64 bytes, the layout of a C
+-- struct: 1, country (2 bytes), class, then serial, volts, hertz, and for each of over-voltage, under-voltage,
+-- over-frequency and under-frequency its kind, limit (without sign) and delay. Every image means a profile.
 -- Assumes nothing.
 use mathlib.Core.Path.{_≡_}
 use mathlib.Core.Bool.{not}
 use mathlib.Core.List.{List, [], _∷_, _++_}
-use Prim.Native.Nat.{ℕ, zero, suc, _+_, _*_, _/_, _%_, _<_}
+use Prim.Native.Nat.{ℕ, _+_, _*_, _/_, _%_, _<_}
 use lib.Dec.{eqb}
-use lib.ListN.{getD, take, drop}
+use lib.ListN.{getD}
 use Rattle.outcome.specs.Answer.{pick}
 use Rattle.profile.specs.declared.Limit.{Limit}
 use Rattle.profile.specs.declared.Limit.the-variants.{Share, Offset}
 use Rattle.profile.specs.declared.Trip.{Trip}
 use Rattle.profile.specs.declared.Profile.{Profile}
 use Rattle.profile.specs.Rules.{share, above, kindOf, sizeOf}
-use Rattle.store.specs.declared.Slot.{Slot}
-use Rattle.store.specs.declared.Store.{Store}
-use Rattle.store.specs.Stored.{capacity}
 
 abbrev pub profileSize : ℕ
 profileSize = 64
-
-abbrev pub storeSize : ℕ
-storeSize = 1024
 
 -- ---- numbers
 
@@ -65,8 +59,9 @@ profileOf image =
 
 -- ---- the image of a profile
 
-abbrev pub headImage : ℕ → Profile → List ℕ
-headImage used p = used ∷ p .country .first ∷ p .country .second ∷ p .class ∷ []
+-- a first byte that is not 0 says that there is a profile
+abbrev pub headImage : Profile → List ℕ
+headImage p = 1 ∷ p .country .first ∷ p .country .second ∷ p .class ∷ []
 
 abbrev pub ratingsImage : Profile → List ℕ
 ratingsImage p = word (p .serial) ++ (word (p .volts) ++ word (p .hertz))
@@ -79,39 +74,10 @@ tripsImage p =
     tripImage (p .«over_voltage»)
     ++ (tripImage (p .«under_voltage») ++ (tripImage (p .«over_frequency») ++ tripImage (p .«under_frequency»)))
 
--- with this first byte
-unfoldable pub imageWith : ℕ → Profile → List ℕ
-imageWith used p = headImage used p ++ (ratingsImage p ++ tripsImage p)
+unfoldable pub imageOf : Profile → List ℕ
+imageOf p = headImage p ++ (ratingsImage p ++ tripsImage p)
 
-abbrev pub imageOf : Profile → List ℕ
-imageOf p = imageWith 1 p
-
--- ---- stores
-
--- a slot is used where its first byte is not 0
-abbrev pub slotOf : List ℕ → Slot
-slotOf image = record { used = not (eqb (getD image 0 0) 0); profile = profileOf image }
-
--- so many slots, one after the other
-unfoldable pub slotsOf : ℕ → List ℕ → List Slot
-slotsOf zero image = []
-slotsOf (suc n) image = slotOf (take profileSize image) ∷ slotsOf n (drop profileSize image)
-
-abbrev pub storeOf : List ℕ → Store
-storeOf image = record { slots = slotsOf capacity image }
-
--- the first byte is 1 where the slot is used and else 0; the profile of a slot that is not used is written all the same
-abbrev pub slotImage : Slot → List ℕ
-slotImage s = imageWith (pick (s .used) 1 0) (s .profile)
-
-unfoldable pub slotsImage : List Slot → List ℕ
-slotsImage [] = []
-slotsImage (s ∷ ss) = slotImage s ++ slotsImage ss
-
-abbrev pub storeImage : Store → List ℕ
-storeImage s = slotsImage (s .slots)
-
--- ---- every value of these types fits: its numbers are below 2^32, and a store has 16 slots
+-- ---- every value of these types fits: its numbers are below 2^32
 
 abbrev pub Small : ℕ → Type 0
 Small n = n < 4294967296
@@ -121,7 +87,10 @@ TripFits t = Small (sizeOf (t .limit)) × Small (t .delay)
 
 abbrev pub TripsFit : Profile → Type 0
 TripsFit p =
-    TripFits (p .«over_voltage») × TripFits (p .«under_voltage») × TripFits (p .«over_frequency») × TripFits (p .«under_frequency»)
+    TripFits (p .«over_voltage»)
+    × TripFits (p .«under_voltage»)
+    × TripFits (p .«over_frequency»)
+    × TripFits (p .«under_frequency»)
 
 pub record Fits (p : Profile) : Type 0 where
   pub serial : Small (p .serial)
@@ -129,16 +98,8 @@ pub record Fits (p : Profile) : Type 0 where
   pub hertz : Small (p .hertz)
   pub trips : TripsFit p
 
-abbrev pub SlotsFit : List Slot → Type 0
-SlotsFit [] = Unit {0}
-SlotsFit (s ∷ ss) = Fits (s .profile) × SlotsFit ss
-
 -- ---- what writing leaves: the image of the value, which means the value
 
 pub record ProfileWritten (p : Profile) (image : List ℕ) : Type 0 where
   pub bytes : image ≡ imageOf p
   pub means : profileOf image ≡ p
-
-pub record StoreWritten (s : Store) (image : List ℕ) : Type 0 where
-  pub bytes : image ≡ storeImage s
-  pub means : storeOf image ≡ s

@@ -27,8 +27,10 @@ returns : tie.Need-returns
 returns c =
     let call = c .before .before .before .before .before in
     let a = call .before .before .before .args in
-    put-line-done (a .p) (a .out .now) (a .length .now)
-    (subst (λ (r : WriteLine). Writes classes (a .p) (a .out .now) r (call .write-line .last .1 .0)) (c .before .n .given .1) (call .write-line .ensures))
+    let new = call .write-line .last .1 .0 in
+    put-line-done classes (a .p) (a .out .now) (a .length .now)
+    (subst (λ (r : WriteLine). Writes classes (a .p) (a .out .now) r new) (c .before .n .given .1)
+    (call .write-line .ensures))
 
 same-length-2 : tie.Need-same-length-2
 same-length-2 c = search needs
@@ -37,8 +39,10 @@ returns-2 : tie.Need-returns-2
 returns-2 c =
     let call = c .before .before .before .before in
     let a = call .before .before .before .args in
-    put-line-size (a .p) (a .out .now) (a .length .now)
-    (subst (λ (r : WriteLine). Writes classes (a .p) (a .out .now) r (call .write-line .last .1 .0)) (c .enum-told .given .1) (call .write-line .ensures))
+    let new = call .write-line .last .1 .0 in
+    put-line-size classes (a .p) (a .out .now) (a .length .now)
+    (subst (λ (r : WriteLine). Writes classes (a .p) (a .out .now) r new) (c .enum-told .given .1)
+    (call .write-line .ensures))
 
 same-length-3 : tie.Need-same-length-3
 same-length-3 c = search needs
@@ -47,8 +51,10 @@ returns-3 : tie.Need-returns-3
 returns-3 c =
     let call = c .before .before .before .before in
     let a = call .before .before .before .args in
-    put-line-broken (a .p) (a .out .now) (a .length .now)
-    (subst (λ (r : WriteLine). Writes classes (a .p) (a .out .now) r (call .write-line .last .1 .0)) (c .enum-told2 .given .1) (call .write-line .ensures))
+    let new = call .write-line .last .1 .0 in
+    put-line-broken classes (a .p) (a .out .now) (a .length .now)
+    (subst (λ (r : WriteLine). Writes classes (a .p) (a .out .now) r new) (c .enum-told2 .given .1)
+    (call .write-line .ensures))
 
 pub put-line-spec : {M : Type 1} → statement M
 put-line-spec =

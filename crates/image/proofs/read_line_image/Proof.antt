@@ -1,14 +1,15 @@
 -- `image::read_line_image` meets its contract: one check after the other, and then the image. Assumes nothing.
 use mathlib.Core.Path.{_∙_, sym, ap}
 use Rattle.profile.specs.Line.{readAnswer}
-use Rattle.image.proofs.EntryLaws.{read-image-size, read-image-done, read-image-short, read-image-broken}
+use Rattle.image.proofs.EntryLaws.{read-image-size, read-image-done, read-image-refused}
+use Rattle.profile.specs.Rules.{classes}
 use borrow.Author.Needs.{needs}
 use Rattle.image.proofs.read_line_image.Statement.{statement}
 use Rattle.image.proofs.read_line_image.Tie as tie
 
 returns : tie.Need-returns
 returns c = let a = c .before .before .before .args in
-    read-image-size (a .line .now) (a .profile .now) (c .if1 .taken)
+    read-image-size classes (a .line .now) (a .profile .now) (c .if1 .taken)
 
 read-line-requires : tie.Need-read-line-requires
 read-line-requires c κs = search needs
@@ -32,20 +33,24 @@ returns-2 : tie.Need-returns-2
 returns-2 c =
     let read = c .before .before .before .before .before .before .before in
     let a = read .before .before .before .before .args in
-    read-image-done (a .line .now) (a .profile .now) (read .before .if1 .left) _
-    (sym (ap readAnswer (c .before .before .before .before .before .p .given .1)) ∙ read .read-line .ensures) (c .before .before .write-profile .ensures .bytes)
+    let wrote = c .before .before in
+    let meant = sym (ap readAnswer (wrote .before .before .before .p .given .1)) ∙ read .read-line .ensures in
+    read-image-done classes (a .line .now) (a .profile .now) (read .before .if1 .left) _ meant
+    (wrote .write-profile .ensures .bytes)
 
 returns-3 : tie.Need-returns-3
 returns-3 c =
     let read = c .before .before in
     let a = read .before .before .before .before .args in
-    read-image-short (a .line .now) (a .profile .now) (read .before .if1 .left) (sym (ap readAnswer (c .enum-told .given .1)) ∙ read .read-line .ensures)
+    let meant = sym (ap readAnswer (c .enum-told .given .1)) ∙ read .read-line .ensures in
+    read-image-refused classes (a .line .now) (a .profile .now) (read .before .if1 .left) 0 meant
 
 returns-4 : tie.Need-returns-4
 returns-4 c =
     let read = c .before .before in
     let a = read .before .before .before .before .args in
-    read-image-broken (a .line .now) (a .profile .now) (read .before .if1 .left) (sym (ap readAnswer (c .enum-told2 .given .1)) ∙ read .read-line .ensures)
+    let meant = sym (ap readAnswer (c .enum-told2 .given .1)) ∙ read .read-line .ensures in
+    read-image-refused classes (a .line .now) (a .profile .now) (read .before .if1 .left) 4 meant
 
 pub read-line-image-spec : {M : Type 1} → statement M
 read-line-image-spec =
