@@ -7,7 +7,7 @@ use native.Mathlib.Omega.{arith}
 use lib.Dec.{T, eqb, ltb, ltb→lt}
 use borrow.Author.Tests.{eqb-true, eq-eqb, ne-eqb}
 use Rattle.outcome.specs.Answer.{pick}
-use Rattle.profile.specs.Rules.{Class, classes, contains, letters}
+use Rattle.profile.specs.Rules.{Class, contains, letters}
 use Rattle.store.specs.declared.Key.{Key}
 use Rattle.store.specs.declared.Device.{Device}
 use Rattle.store.specs.Keys.{sameKey, hasClass, deviceOk}
@@ -33,7 +33,8 @@ pick-again true x y z = refl
 pick-again false x y z = refl
 
 -- two choices of which at most one is made may change places
-pub pick-apart : {A : Type 0} (a b : Bool) (x y z : A) → (a ≡ true → b ≡ true → ⊥) → pick a x (pick b y z) ≡ pick b y (pick a x z)
+pub pick-apart : {A : Type 0} (a b : Bool) (x y z : A) → (a ≡ true → b ≡ true → ⊥)
+    → pick a x (pick b y z) ≡ pick b y (pick a x z)
 pick-apart true true x y z apart = absurd (apart refl refl)
 pick-apart true false x y z apart = refl
 pick-apart false b x y z apart = refl
@@ -75,7 +76,8 @@ same-apart a b k differ ak bk =
 pub class-apart : (a b : Key) → (a .class ≡ b .class → ⊥) → sameKey a b ≡ false
 unfolding sameKey
 class-apart a b differ =
-    go (eqb (a .country .first) (b .country .first)) (eqb (a .country .second) (b .country .second)) (eqb (a .class) (b .class))
+    go (eqb (a .country .first) (b .country .first)) (eqb (a .country .second) (b .country .second))
+    (eqb (a .class) (b .class))
     (ne-eqb (a .class) (b .class) differ)
   where
     go : (x y z : Bool) → z ≡ false → (x && (y && z)) ≡ false
@@ -115,8 +117,9 @@ class-byte (c ∷ cs) bytes n e = go (eqb n (c .letter)) refl e (class-byte cs (
     go true m e rest = omega (arith, eqb-true n (c .letter) m, ltb→lt (c .letter) 256 (bytes .0))
     go false m e rest = rest e
 
-pub device-class-byte : (d : Device) → deviceOk classes d ≡ true → d .class < 256
+pub device-class-byte : (table : List Class) → Bytes table → (d : Device) → deviceOk table d ≡ true → d .class < 256
 unfolding deviceOk
-device-class-byte d e =
+device-class-byte table bytes d e =
     let first = both-true (contains letters (d .country .first)) _ e in
-    class-byte classes (tt, (tt, (tt, (tt, tt)))) (d .class) ((both-true (contains letters (d .country .second)) _ (first .1)) .1)
+    let second = both-true (contains letters (d .country .second)) _ (first .1) in
+    class-byte table bytes (d .class) (second .1)

@@ -1,5 +1,7 @@
 pub mod KeyLaws
 pub mod StoredLaws
 pub mod SlotLaws
+pub mod PlaceLaws
+pub mod LookupLaws
 pub mod PutLaws
 pub mod Reached

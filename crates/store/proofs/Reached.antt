@@ -14,24 +14,41 @@ use Rattle.profile.specs.declared.Profile.{Profile}
 use Rattle.outcome.specs.Result.{Result, done}
 use Rattle.store.specs.declared.Key.{Key}
 use Rattle.store.specs.declared.Device.{Device}
-use Rattle.store.specs.declared.Store.{Store}
-use Rattle.store.specs.declared.PutAnswer.{PutAnswer}
 use Rattle.store.specs.Keys.{keyOf, deviceKey, sameKey}
-use Rattle.store.specs.Stored.{capacity, stored, find, isStored, insert, Distinct}
+use Rattle.store.specs.Stored.{capacity, slotsOf, profilesIn, stored, find, isStored, insert, Distinct}
 use Rattle.store.specs.Calls.{Perm, Stores, Puts}
-use Rattle.store.specs.Reached.{Call, answerTo, Step, Run, model, Entered, EmptyReached, PutReaches, ReachedHold}
+use Rattle.store.specs.Reached.{
+  Call,
+  answerTo,
+  Step,
+  Run,
+  model,
+  Entered,
+  ZerosEmpty,
+  EmptyReached,
+  PutReaches,
+  ReachedHold,
+}
 use Rattle.store.proofs.KeyLaws.{same-eq}
-use Rattle.store.proofs.StoredLaws.{find-key, find-insert, perm-length, perm-distinct, perm-insert, distinct-insert}
-use Rattle.store.proofs.PutLaws.{lookup-find, put-passed, stores-length, put-same}
+use Rattle.store.proofs.StoredLaws.{
+  find-key,
+  find-insert,
+  perm-length,
+  perm-distinct,
+  perm-insert,
+  distinct-insert,
+}
+use Rattle.store.proofs.LookupLaws.{lookup-find}
+use Rattle.store.proofs.PutLaws.{put-passed, stores-length, put-same}
 
 -- ---- one call
 
 -- what `put` ensures is a step
-pub puts-step : (d : Device) (p : Profile) (old : Store) (r : PutAnswer) → Puts d p old r
-    → Step (record { device = d; profile = p }) (stored old) (stored (r .store))
-puts-step d p old r puts =
+pub puts-step : (d : Device) (p : Profile) (old : List ℕ) (r : ℕ) (new : List ℕ) → Puts d p old r new
+    → Step (record { device = d; profile = p }) (stored old) (stored new)
+puts-step d p old r new puts =
     record {
-      taken = λ e. puts .taken (puts .answer ∙ e);
+      taken = λ e. puts .taken (puts .answer ∙ e) .stores;
       kept = λ ne. ap stored (puts .kept (λ e. ne (sym (puts .answer) ∙ e)));
     }
 
@@ -59,7 +76,8 @@ step-fits : {c : Call} {ps qs : List Profile} → Step c ps qs → length ps ≤
 step-fits {c} {ps} {qs} step h =
     by-answer step
     (λ e new.
-    let room = room-for (isStored (keyOf (c .profile)) ps) (length ps) ((put-passed (c .device) (c .profile) ps e) .2) h in
+    let passed = put-passed (c .device) (c .profile) ps e in
+    let room = room-for (isStored (keyOf (c .profile)) ps) (length ps) (passed .2) h in
     omega (arith, stores-length new))
     (λ ne same. subst (λ (l : List Profile). length l ≤ capacity) (sym same) h)
 
@@ -118,10 +136,12 @@ step-entered {c} {ps} {qs} step k p f =
     (λ e new. go e (sameKey (keyOf (c .profile)) k) refl (sym (new .finds k) ∙ f))
     (λ ne same. inl (subst (λ (l : List Profile). find k l ≡ done p) same f))
   where
-    go : answerTo c ps ≡ 0 → (b : Bool) → sameKey (keyOf (c .profile)) k ≡ b → pick b (done (c .profile)) (find k ps) ≡ done p
+    go : answerTo c ps ≡ 0 → (b : Bool) → sameKey (keyOf (c .profile)) k ≡ b
+        → pick b (done (c .profile)) (find k ps) ≡ done p
         → (find k ps ≡ done p) ⊎ ((answerTo c ps ≡ 0) × (deviceKey (c .device) ≡ k) × (c .profile ≡ p))
     go e true s g =
-        let its = same-eq (keyOf (c .profile)) (deviceKey (c .device)) ((put-passed (c .device) (c .profile) ps e) .0) in
+        let passed = put-passed (c .device) (c .profile) ps e in
+        let its = same-eq (keyOf (c .profile)) (deviceKey (c .device)) (passed .0) in
         let it : c .profile ≡ p = cc in
         inr (e, sym its ∙ same-eq (keyOf (c .profile)) k s, it)
     go e false s g = inl g
@@ -188,15 +208,21 @@ reached-hold calls ps run =
     origin : (d : Device) (p : Profile) → find (deviceKey d) ps ≡ done p
         → (keyOf p ≡ deviceKey d) × Entered [] calls ps (deviceKey d) p
     origin d p f =
-        (same-eq (keyOf p) (deviceKey d) (find-key (deviceKey d) ps p f), entry d p (run-entered calls [] ps run (deviceKey d) p f))
+        let its = same-eq (keyOf p) (deviceKey d) (find-key (deviceKey d) ps p f) in
+        (its, entry d p (run-entered calls [] ps run (deviceKey d) p f))
 
 pub reached-empty : EmptyReached
-reached-empty s e = e
+reached-empty image e = e
 
-run-more : (cs : List Call) (ps qs rs : List Profile) (c : Call) → Run ps cs qs → Step c qs rs → Run ps (cs ++ (c ∷ [])) rs
+pub zeros-empty : ZerosEmpty
+unfolding slotsOf profilesIn
+zeros-empty = refl
+
+run-more : (cs : List Call) (ps qs rs : List Profile) (c : Call) → Run ps cs qs → Step c qs rs
+    → Run ps (cs ++ (c ∷ [])) rs
 run-more [] ps qs rs c run step = (rs, subst (λ (l : List Profile). Step c l rs) run step, refl)
 run-more (b ∷ cs) ps qs rs c run step = (run .0, run .1, run-more cs (run .0) qs rs c (run .2) step)
 
 pub reached-put : PutReaches
-reached-put calls d p old r run puts =
-    run-more calls [] (stored old) (stored (r .store)) (record { device = d; profile = p }) run (puts-step d p old r puts)
+reached-put calls d p old r new run puts =
+    run-more calls [] (stored old) (stored new) (record { device = d; profile = p }) run (puts-step d p old r new puts)

@@ -1,24 +1,33 @@
 -- Laws of slots: where a slot is found, and what a store holds after one is filled. Assumes nothing.
-use mathlib.Core.Path.{_≡_, refl, _∙_, sym, ap}
+use mathlib.Core.Path.{_≡_, refl, _∙_, ap}
 use mathlib.Core.Bool.{Bool, true, false, _&&_, not}
-use mathlib.Core.List.{List, [], _∷_, map, List·Permᴰ·cons, List·Permᴰ·swap, List·Permᴰ·trans, Permᴰ·refl}
+use mathlib.Core.List.{List, [], _∷_, List·Permᴰ·cons, List·Permᴰ·swap, List·Permᴰ·trans, Permᴰ·refl}
 use Prim.Native.Nat.{ℕ, zero, suc, _+_, _≤_, _<_}
 use native.Mathlib.Numerals.{add-one}
 use native.Mathlib.Omega.{arith}
-use lib.ListN.{length, getD, set, drop, length-map, drop-of-length-le}
+use lib.ListN.{length, getD, set, drop, drop-of-length-le}
 use lib.Seq.{drop-cons}
-use Rattle.outcome.specs.Answer.{nothing-stored, pick}
+use Rattle.outcome.specs.Answer.{pick}
 use Rattle.profile.specs.declared.Limit.the-variants.{Share}
 use Rattle.profile.specs.declared.Trip.{Trip}
 use Rattle.profile.specs.declared.Profile.{Profile}
-use Rattle.outcome.specs.Result.{done, refused}
+use Rattle.outcome.specs.Result.{done}
 use Rattle.store.specs.declared.Key.{Key}
-use Rattle.store.specs.declared.Slot.{Slot}
 use Rattle.store.specs.Keys.{keyOf, sameKey}
-use Rattle.store.specs.Stored.{capacity, profilesIn, find, isStored, insert, isFree, holding, firstSlot, slotFor}
+use Rattle.store.specs.Stored.{
+  Slot,
+  profilesIn,
+  find,
+  isStored,
+  insert,
+  isFree,
+  holding,
+  firstSlot,
+  slotFor,
+}
 use Rattle.store.specs.Calls.{Perm, Stores}
 use Rattle.store.proofs.KeyLaws.{not-both, pick-apart, same-apart}
-use Rattle.store.proofs.StoredLaws.{find-none, find-insert, insert-end, perm-eq, perm-last}
+use Rattle.store.proofs.StoredLaws.{find-insert, insert-end, perm-eq, perm-last}
 
 -- ---- searching slot by slot
 
@@ -42,12 +51,9 @@ unset =
           };
     }
 
--- the code knows the length of an array of structs by a list that is made of them
-pub slots-counted : {A B : Type 0} (f : A → B) (l : List A) (n : ℕ) → length (map f l) ≡ n → length l ≡ n
-slots-counted f l n e = sym (length-map l f) ∙ e
-
 -- after i slots that fail the test: the next passes, or fails, or there is none
-module _ (test : Slot → Bool) (ss : List Slot) (i : ℕ) (failed : i + firstSlot test (drop i ss) ≡ firstSlot test ss) where
+module _ (test : Slot → Bool) (ss : List Slot) (i : ℕ)
+    (failed : i + firstSlot test (drop i ss) ≡ firstSlot test ss) where
   pub search-here : i < length ss → test (getD ss i unset) ≡ true → i ≡ firstSlot test ss
   unfolding firstSlot
   search-here h e =
@@ -82,13 +88,15 @@ first-passes test (s ∷ ss) d h = go (test s) refl h (first-passes test ss d)
 
 -- ---- the slot of a key
 
-found-at : (k : Key) (ss : List Slot) (d : Slot) → firstSlot (holding k) ss < length ss
+-- it holds what is found under the key
+pub found-at : (k : Key) (ss : List Slot) (d : Slot) → firstSlot (holding k) ss < length ss
     → find k (profilesIn ss) ≡ done ((getD ss (firstSlot (holding k) ss) d) .profile)
 unfolding firstSlot profilesIn find
 found-at k [] d h = absurd (omega arith)
 found-at k (s ∷ ss) d h = go (s .used) (sameKey (keyOf (s .profile)) k) refl h (found-at k ss d)
   where
-    go : (u m : Bool) → sameKey (keyOf (s .profile)) k ≡ m → pick (u && m) 0 (suc (firstSlot (holding k) ss)) < suc (length ss)
+    go : (u m : Bool) → sameKey (keyOf (s .profile)) k ≡ m
+        → pick (u && m) 0 (suc (firstSlot (holding k) ss)) < suc (length ss)
         → (firstSlot (holding k) ss < length ss
         → find k (profilesIn ss) ≡ done ((getD ss (firstSlot (holding k) ss) d) .profile))
         → find k (pick u (s .profile ∷ profilesIn ss) (profilesIn ss))
@@ -97,12 +105,15 @@ found-at k (s ∷ ss) d h = go (s .used) (sameKey (keyOf (s .profile)) k) refl h
     go true false e h rest = rw e (rest (omega arith))
     go false m e h rest = rest (omega arith)
 
-found-nowhere : (k : Key) (ss : List Slot) → length ss ≤ firstSlot (holding k) ss → isStored k (profilesIn ss) ≡ false
+-- and where there is none nothing is found
+pub found-nowhere : (k : Key) (ss : List Slot) → length ss ≤ firstSlot (holding k) ss
+    → isStored k (profilesIn ss) ≡ false
 unfolding firstSlot profilesIn find
 found-nowhere k [] h = refl
 found-nowhere k (s ∷ ss) h = go (s .used) (sameKey (keyOf (s .profile)) k) refl h (found-nowhere k ss)
   where
-    go : (u m : Bool) → sameKey (keyOf (s .profile)) k ≡ m → suc (length ss) ≤ pick (u && m) 0 (suc (firstSlot (holding k) ss))
+    go : (u m : Bool) → sameKey (keyOf (s .profile)) k ≡ m
+        → suc (length ss) ≤ pick (u && m) 0 (suc (firstSlot (holding k) ss))
         → (length ss ≤ firstSlot (holding k) ss → isStored k (profilesIn ss) ≡ false)
         → isStored k (pick u (s .profile ∷ profilesIn ss) (profilesIn ss)) ≡ false
     go true true e h rest = absurd (omega arith)
@@ -125,24 +136,7 @@ replaced p (s ∷ ss) h = go (s .used) (sameKey (keyOf (s .profile)) (keyOf p)) 
     go true false eu em h rest = rw (eu, em) (ap (λ (l : List Profile). s .profile ∷ l) (rest (omega arith)))
     go false m eu em h rest = rw eu (rest (omega arith))
 
--- what is known once a key was searched for: i is the first slot that holds it, or the number of slots
-pub record Searched (k : Key) (ss : List Slot) (i : ℕ) : Type 0 where
-  pub size : length ss ≡ capacity
-  pub first : i ≡ firstSlot (holding k) ss
-
-module _ {k : Key} {ss : List Slot} {i : ℕ} (s : Searched k ss i) where
-  -- the slot holds what is found under the key
-  pub held : i < capacity → find k (profilesIn ss) ≡ done ((getD ss i unset) .profile)
-  held h = rw (s .first) (found-at k ss unset (omega arith))
-
-  -- and where there is none nothing is found
-  pub held-nowhere : capacity ≤ i → isStored k (profilesIn ss) ≡ false
-  held-nowhere h = found-nowhere k ss (omega arith)
-
-  pub held-none : capacity ≤ i → find k (profilesIn ss) ≡ refused nothing-stored
-  held-none h = find-none k (profilesIn ss) (held-nowhere h)
-
--- filled anew, it holds p for the profile of its key
+-- filled anew, the slot of its key holds p
 pub stores-replaced : (p : Profile) (ss ts : List Slot) (i : ℕ) → i ≡ firstSlot (holding (keyOf p)) ss → i < length ss
     → ts ≡ set ss i (slotFor p) → Stores p (profilesIn ss) (profilesIn ts)
 stores-replaced p ss ts i first h e =
@@ -191,7 +185,8 @@ added-finds p (s ∷ ss) (suc i) d h f new k =
     go : (u m : Bool) → sameKey (keyOf (s .profile)) (keyOf p) ≡ m → (ps qs : List Profile)
         → isStored (keyOf p) (pick u (s .profile ∷ ps) ps) ≡ false
         → (isStored (keyOf p) ps ≡ false → find k qs ≡ pick (sameKey (keyOf p) k) (done p) (find k ps))
-        → find k (pick u (s .profile ∷ qs) qs) ≡ pick (sameKey (keyOf p) k) (done p) (find k (pick u (s .profile ∷ ps) ps))
+        → find k (pick u (s .profile ∷ qs) qs)
+        ≡ pick (sameKey (keyOf p) k) (done p) (find k (pick u (s .profile ∷ ps) ps))
     go true true e ps qs new rest = absurd (not-both true refl (rw e at new))
     go true false e ps qs new rest =
         rw (rest (rw e at new))
@@ -206,7 +201,8 @@ stores-added p ss ts i first h new e =
     record {
       finds = rw e (added-finds p ss i unset h free new);
       listed =
-          rw (e, insert-end p (profilesIn ss) new) (List·Permᴰ·trans (added p ss i unset h free) (perm-last p (profilesIn ss)));
+          rw (e, insert-end p (profilesIn ss) new)
+          (List·Permᴰ·trans (added p ss i unset h free) (perm-last p (profilesIn ss)));
     }
 
 -- ---- room

@@ -1,7 +1,20 @@
 -- Laws of lists of profiles: finding, inserting, and lists that hold the same in another order. Assumes nothing.
 use mathlib.Core.Path.{_≡_, refl, _∙_, sym, ap, subst}
 use mathlib.Core.Bool.{Bool, true, false, _||_}
-use mathlib.Core.List.{List, [], _∷_, _++_, List·Permᴰ·nil, List·Permᴰ·cons, List·Permᴰ·swap, List·Permᴰ·trans, Permᴰ·refl, Permᴰ·symm, Permᴰ·middle, Permᴰ·append-nil}
+use mathlib.Core.List.{
+  List,
+  [],
+  _∷_,
+  _++_,
+  List·Permᴰ·nil,
+  List·Permᴰ·cons,
+  List·Permᴰ·swap,
+  List·Permᴰ·trans,
+  Permᴰ·refl,
+  Permᴰ·symm,
+  Permᴰ·middle,
+  Permᴰ·append-nil,
+}
 use Prim.Native.Nat.{ℕ, suc}
 use native.Mathlib.Omega.{arith}
 use lib.ListN.{length}
@@ -31,7 +44,8 @@ is-done : (b : Bool) (p : Profile) (r : Result Profile) → isDone (pick b (done
 is-done true p r = refl
 is-done false p r = refl
 
-pub stored-cons : (k : Key) (p : Profile) (ps : List Profile) → isStored k (p ∷ ps) ≡ (sameKey (keyOf p) k || isStored k ps)
+pub stored-cons : (k : Key) (p : Profile) (ps : List Profile)
+    → isStored k (p ∷ ps) ≡ (sameKey (keyOf p) k || isStored k ps)
 unfolding find
 stored-cons k p ps = is-done (sameKey (keyOf p) k) p (find k ps)
 
@@ -42,7 +56,8 @@ find-none k [] e = refl
 find-none k (p ∷ ps) e = go (sameKey (keyOf p) k) e (find-none k ps)
   where
     go : (b : Bool) → isDone (pick b (done p) (find k ps)) ≡ false
-        → (isStored k ps ≡ false → find k ps ≡ refused nothing-stored) → pick b (done p) (find k ps) ≡ refused nothing-stored
+        → (isStored k ps ≡ false → find k ps ≡ refused nothing-stored)
+        → pick b (done p) (find k ps) ≡ refused nothing-stored
     go true f rest = absurd (not-both true refl f)
     go false f rest = rest f
 
@@ -55,13 +70,16 @@ unfolding find insert
 find-insert k p [] = refl
 find-insert k p (q ∷ qs) = go (sameKey (keyOf q) (keyOf p)) refl (find-insert k p qs)
   where
-    go : (b : Bool) → sameKey (keyOf q) (keyOf p) ≡ b → find k (insert p qs) ≡ pick (sameKey (keyOf p) k) (done p) (find k qs)
+    go : (b : Bool) → sameKey (keyOf q) (keyOf p) ≡ b
+        → find k (insert p qs) ≡ pick (sameKey (keyOf p) k) (done p) (find k qs)
         → find k (pick b (p ∷ qs) (q ∷ insert p qs))
         ≡ pick (sameKey (keyOf p) k) (done p) (pick (sameKey (keyOf q) k) (done q) (find k qs))
-    go true s rest = rw (same-eq (keyOf q) (keyOf p) s) (sym (pick-again (sameKey (keyOf p) k) (done p) (done q) (find k qs)))
+    go true s rest =
+        rw (same-eq (keyOf q) (keyOf p) s) (sym (pick-again (sameKey (keyOf p) k) (done p) (done q) (find k qs)))
     go false s rest =
         rw rest
-        (pick-apart (sameKey (keyOf q) k) (sameKey (keyOf p) k) (done q) (done p) (find k qs) (same-apart (keyOf q) (keyOf p) k s))
+        (pick-apart (sameKey (keyOf q) k) (sameKey (keyOf p) k) (done q) (done p) (find k qs)
+        (same-apart (keyOf q) (keyOf p) k s))
 
 -- p takes the place of the one of its key, or is one more
 pub length-insert : (p : Profile) (ps : List Profile)
@@ -146,7 +164,8 @@ cons-apart k p ps e f = stored-cons k p ps ∙ or-both (sameKey (keyOf p) k) (is
 pub perm-distinct : {ps qs : List Profile} → Perm ps qs → Distinct ps → Distinct qs
 perm-distinct List·Permᴰ·nil u = u
 perm-distinct (List·Permᴰ·cons {a = p} {b = q} {l₁ = ps} {l₂ = qs} e d) u =
-    (subst (λ (r : Profile). isStored (keyOf r) qs ≡ false) e (sym (perm-stored (keyOf p) d) ∙ u .0), perm-distinct d (u .1))
+    let head = subst (λ (r : Profile). isStored (keyOf r) qs ≡ false) e (sym (perm-stored (keyOf p) d) ∙ u .0) in
+    (head, perm-distinct d (u .1))
 perm-distinct (List·Permᴰ·swap {a = p} {b = q} {a′ = p′} {b′ = q′} {l = ps} e f) u =
     let apart = apart-cons (keyOf p) q ps (u .0) in
     let apart′ : sameKey (keyOf p) (keyOf q) ≡ false = same-comm (keyOf p) (keyOf q) ∙ apart .0 in
@@ -181,7 +200,8 @@ unfolding find insert
 distinct-insert p [] u = (refl, tt)
 distinct-insert p (q ∷ qs) u = go (sameKey (keyOf q) (keyOf p)) refl (distinct-insert p qs (u .1))
   where
-    go : (b : Bool) → sameKey (keyOf q) (keyOf p) ≡ b → Distinct (insert p qs) → Distinct (pick b (p ∷ qs) (q ∷ insert p qs))
+    go : (b : Bool) → sameKey (keyOf q) (keyOf p) ≡ b → Distinct (insert p qs)
+        → Distinct (pick b (p ∷ qs) (q ∷ insert p qs))
     go true s rest = (subst (λ (k : Key). isStored k qs ≡ false) (same-eq (keyOf q) (keyOf p) s) (u .0), u .1)
     go false s rest = (stored-insert (keyOf q) p qs (same-comm (keyOf p) (keyOf q) ∙ s) (u .0), rest)
 
@@ -211,7 +231,8 @@ perm-insert-cons p q {ps} {qs} d rest = go (sameKey (keyOf q) (keyOf p))
 pub perm-insert : (p : Profile) {ps qs : List Profile} → Perm ps qs → Distinct ps → Perm (insert p ps) (insert p qs)
 perm-insert p List·Permᴰ·nil u = Permᴰ·refl (insert p [])
 perm-insert p (List·Permᴰ·cons {a = q} {b = r} {l₁ = ps} {l₂ = qs} e d) u =
-    subst (λ (x : Profile). Perm (insert p (q ∷ ps)) (insert p (x ∷ qs))) e (perm-insert-cons p q d (perm-insert p d (u .1)))
+    subst (λ (x : Profile). Perm (insert p (q ∷ ps)) (insert p (x ∷ qs))) e
+    (perm-insert-cons p q d (perm-insert p d (u .1)))
 perm-insert p (List·Permᴰ·swap {a = q} {b = r} {a′ = q′} {b′ = r′} {l = ps} e f) u =
     subst (λ (x : Profile). Perm (insert p (q ∷ (r ∷ ps))) (insert p (x ∷ (r′ ∷ ps)))) f
     (subst (λ (x : Profile). Perm (insert p (q ∷ (r ∷ ps))) (insert p (r ∷ (x ∷ ps)))) e

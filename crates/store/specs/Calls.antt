@@ -1,23 +1,34 @@
--- What looking up and storing answer, of every store, reached or not (document 01, table "Returned" and the paragraph after it).
+-- What looking up and storing answer, of every store, reached or not, under a class table (document 01, table
+-- "Returned" and the paragraph after it).
 -- Assumes nothing.
 use mathlib.Core.Path.{_≡_}
-use mathlib.Core.Bool.{Bool, true, _||_}
+use mathlib.Core.Bool.{Bool, true, false, _||_}
 use mathlib.Core.List.{List, [], _∷_, List·Permᴰ}
-use Prim.Native.Nat.{ℕ}
-use lib.Dec.{ltb}
+use Prim.Native.Nat.{ℕ, _<_}
+use lib.Dec.{eqb, ltb}
 use lib.ListN.{length}
-use Rattle.outcome.specs.Answer.{other-device, old-serial, full, nothing-stored, bad-device, Check, _unless_, firstRefusal, pick}
-use Rattle.profile.specs.declared.Profile.{Profile}
+use Rattle.outcome.specs.Answer.{
+  bad-size,
+  bad-line,
+  other-device,
+  old-serial,
+  full,
+  nothing-stored,
+  bad-device,
+  Check,
+  _unless_,
+  firstRefusal,
+  pick,
+  AnswersFront,
+}
 use Rattle.outcome.specs.Result.{Result, done, refused}
-use Rattle.profile.specs.Rules.{Class}
+use Rattle.profile.specs.declared.Profile.{Profile}
+use Rattle.profile.specs.Rules.{Class, valid}
+use Rattle.profile.specs.Line.{longest, lineOf}
 use Rattle.store.specs.declared.Key.{Key}
 use Rattle.store.specs.declared.Device.{Device}
-use Rattle.store.specs.declared.Store.{Store}
-use Rattle.store.specs.declared.LookupAnswer.{LookupAnswer}
-use Rattle.store.specs.declared.LookupAnswer.the-variants.{Found, NothingStored, BadDevice}
-use Rattle.store.specs.declared.PutAnswer.{PutAnswer}
-use Rattle.store.specs.Keys.{keyOf, deviceKey, sameKey, deviceOk}
-use Rattle.store.specs.Stored.{capacity, stored, find, isStored, insert}
+use Rattle.store.specs.Keys.{keyOf, deviceKey, sameKey, deviceOf, deviceOk}
+use Rattle.store.specs.Stored.{capacity, storeSize, withProfile, stored, find, isDone, isStored, insert}
 
 -- ---- looking up
 
@@ -30,14 +41,37 @@ abbrev pub after : {A : Type 0} → List Check → Result A → Result A
 after [] a = a
 after (r unless ok ∷ checks) a = pick ok (after checks a) (refused r)
 
+-- what a device finds
 unfoldable pub lookupIn : List Class → Device → List Profile → Result Profile
 lookupIn table d ps = after (lookupChecks table d ps) (find (deviceKey d) ps)
 
--- what each case of `lookup`'s answer means
-abbrev pub lookupResult : LookupAnswer → Result Profile
-lookupResult (Found p) = done p
-lookupResult NothingStored = refused nothing-stored
-lookupResult BadDevice = refused bad-device
+-- what a device that is set to this country and class finds in an image
+abbrev pub foundIn : List Class → List ℕ → List ℕ → ℕ → Result Profile
+foundIn table image country class = lookupIn table (deviceOf country class) (stored image)
+
+abbrev pub validIn : List Class → Result Profile → Bool
+validIn table (done p) = valid table p
+validIn table (refused r) = false
+
+abbrev pub foundLine : Result Profile → List ℕ
+foundLine (done p) = lineOf p
+foundLine (refused r) = []
+
+-- only an image that no run of the library made holds a profile that breaks a rule
+abbrev pub lookupLineChecks : List Class → List ℕ → List ℕ → ℕ → List ℕ → List Check
+lookupLineChecks table image country class old =
+    bad-device unless eqb (length country) 2
+    ∷ bad-device unless deviceOk table (deviceOf country class)
+    ∷ bad-size unless eqb (length image) storeSize
+    ∷ bad-size unless eqb (length old) longest
+    ∷ nothing-stored unless isDone (foundIn table image country class)
+    ∷ bad-line unless validIn table (foundIn table image country class)
+    ∷ []
+
+-- the line of what is found
+abbrev pub LooksUp : List Class → List ℕ → List ℕ → ℕ → List ℕ → ℕ → ℕ → List ℕ → ℕ → Type 0
+LooksUp table image country class old =
+    AnswersFront (lookupLineChecks table image country class old) (foundLine (foundIn table image country class)) old
 
 -- ---- storing
 
@@ -61,15 +95,22 @@ putNumber d p ps = firstRefusal (putChecks d p ps)
 abbrev pub Perm : List Profile → List Profile → Type 0
 Perm = List·Permᴰ
 
--- ps became qs by storing p. Which slot p takes, and so the order of qs, is the program's choice. Every choice has in common that
--- p is found under its key, and under any other key what was found before; and that qs is, up to order, ps with p in place of the
--- one of its key, or with p besides.
+-- ps became qs by storing p. Which slot p takes, and so the order of qs, is the program's choice. Every choice has in
+-- common that p is found under its key, and under any other key what was found before; and that qs is, up to order, ps
+-- with p in place of the one of its key, or with p besides.
 pub record Stores (p : Profile) (ps qs : List Profile) : Type 0 where
   pub finds : (k : Key) → find k qs ≡ pick (sameKey (keyOf p) k) (done p) (find k ps)
   pub listed : Perm qs (insert p ps)
 
--- the answer of `put`; after a refusal the store is the old one in all its parts
-pub record Puts (d : Device) (p : Profile) (old : Store) (r : PutAnswer) : Type 0 where
-  pub answer : r .answer ≡ putNumber d p (stored old)
-  pub taken : r .answer ≡ 0 → Stores p (stored old) (stored (r .store))
-  pub kept : (r .answer ≡ 0 → ⊥) → r .store ≡ old
+-- p stands in one slot, whichever the program chose, and every other byte is as it was
+pub record Taken (p : Profile) (old new : List ℕ) : Type 0 where
+  pub slot : ℕ
+  pub within : slot < capacity
+  pub bytes : new ≡ withProfile slot p old
+  pub stores : Stores p (stored old) (stored new)
+
+-- the answer of `put`; after a refusal every byte is as it was
+pub record Puts (d : Device) (p : Profile) (old : List ℕ) (r : ℕ) (new : List ℕ) : Type 0 where
+  pub answer : r ≡ putNumber d p (stored old)
+  pub taken : r ≡ 0 → Taken p old new
+  pub kept : (r ≡ 0 → ⊥) → new ≡ old

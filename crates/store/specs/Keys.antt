@@ -1,9 +1,11 @@
--- What a profile is stored under, and the setting of a device (document 01, "Profile line, package, shelf" and table "Returned").
+-- What a profile is stored under, and the setting of a device (document 01, "Profile line, package, shelf" and table
+-- "Returned").
 -- Assumes nothing.
 use mathlib.Core.Bool.{Bool, false, _&&_, _||_}
 use mathlib.Core.List.{List, [], _∷_}
 use Prim.Native.Nat.{ℕ}
 use lib.Dec.{eqb}
+use lib.ListN.{getD}
 use Rattle.profile.specs.declared.Profile.{Profile}
 use Rattle.profile.specs.Rules.{Class, contains, letters}
 use Rattle.store.specs.declared.Key.{Key}
@@ -12,6 +14,11 @@ use Rattle.store.specs.declared.Device.{Device}
 -- a profile is stored under its country and class
 abbrev pub keyOf : Profile → Key
 keyOf p = record { country = p .country; class = p .class }
+
+-- the setting that two bytes and a number make
+abbrev pub deviceOf : List ℕ → ℕ → Device
+deviceOf country class =
+    record { country = record { first = getD country 0 0; second = getD country 1 0 }; class = class }
 
 -- the country and class that the device is set to
 abbrev pub deviceKey : Device → Key

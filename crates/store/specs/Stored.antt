@@ -1,27 +1,76 @@
--- What a store holds: a list of profiles, looked up by key (document 01, "Profile line, package, shelf").
+-- What a store holds: its image is sixteen slots, one after the other, and the used ones hold a list of profiles,
+-- looked up by key (document 01, "Profile line, package, shelf"). Every image means a store.
 -- Assumes nothing.
 use mathlib.Core.Path.{_≡_}
 use mathlib.Core.Bool.{Bool, true, false, _&&_, not}
-use mathlib.Core.List.{List, [], _∷_}
-use Prim.Native.Nat.{ℕ, suc}
+use mathlib.Core.List.{List, [], _∷_, _++_}
+use Prim.Native.Nat.{ℕ, zero, suc, _+_, _*_}
+use lib.Dec.{eqb}
+use lib.ListN.{getD, take, drop, set}
 use Rattle.outcome.specs.Answer.{nothing-stored, pick}
-use Rattle.profile.specs.declared.Profile.{Profile}
 use Rattle.outcome.specs.Result.{Result, done, refused}
+use Rattle.profile.specs.declared.Profile.{Profile}
+use Rattle.image.specs.Image.{profileSize, profileOf, imageOf}
 use Rattle.store.specs.declared.Key.{Key}
-use Rattle.store.specs.declared.Slot.{Slot}
-use Rattle.store.specs.declared.Store.{Store}
 use Rattle.store.specs.Keys.{keyOf, sameKey}
 
 abbrev pub capacity : ℕ
 capacity = 16
+
+abbrev pub storeSize : ℕ
+storeSize = capacity * profileSize
+
+-- ---- slots
+
+-- the profile of a slot that is not used means nothing
+pub record Slot : Type 0 where
+  pub used : Bool
+  pub profile : Profile
+
+-- a slot is used where its first byte is not 0
+abbrev pub slotOf : List ℕ → Slot
+slotOf bytes = record { used = not (eqb (getD bytes 0 0) 0); profile = profileOf bytes }
+
+-- so many slots, one after the other
+unfoldable pub slotsOf : ℕ → List ℕ → List Slot
+slotsOf zero image = []
+slotsOf (suc n) image = slotOf (take profileSize image) ∷ slotsOf n (drop profileSize image)
+
+-- the bytes of slot i
+abbrev pub slotBytes : ℕ → List ℕ → List ℕ
+slotBytes i image = take profileSize (drop (profileSize * i) image)
+
+-- p in slot i, and every other byte as it was
+abbrev pub withProfile : ℕ → Profile → List ℕ → List ℕ
+withProfile i p image = take (profileSize * i) image ++ (imageOf p ++ drop (profileSize * i + profileSize) image)
+
+abbrev pub slotFor : Profile → Slot
+slotFor p = record { used = true; profile = p }
+
+-- what writing p into slot i leaves
+pub record SlotWritten (i : ℕ) (p : Profile) (old new : List ℕ) : Type 0 where
+  pub bytes : new ≡ withProfile i p old
+  pub slots : slotsOf capacity new ≡ set (slotsOf capacity old) i (slotFor p)
+
+abbrev pub isFree : Slot → Bool
+isFree s = not (s .used)
+
+-- the slot holds a profile of the key
+abbrev pub holding : Key → Slot → Bool
+holding k s = s .used && sameKey (keyOf (s .profile)) k
+
+-- the place of the first slot that passes the test, or the number of slots
+unfoldable pub firstSlot : (Slot → Bool) → List Slot → ℕ
+firstSlot test [] = 0
+firstSlot test (s ∷ ss) = pick (test s) 0 (suc (firstSlot test ss))
 
 -- the profiles of the slots that are used
 unfoldable pub profilesIn : List Slot → List Profile
 profilesIn [] = []
 profilesIn (s ∷ ss) = pick (s .used) (s .profile ∷ profilesIn ss) (profilesIn ss)
 
-abbrev pub stored : Store → List Profile
-stored s = profilesIn (s .slots)
+abbrev pub stored : List ℕ → List Profile
+stored image = profilesIn (slotsOf capacity image)
 
 -- ---- the profiles as a map
 
@@ -46,20 +95,3 @@ insert p (q ∷ qs) = pick (sameKey (keyOf q) (keyOf p)) (p ∷ qs) (q ∷ inser
 abbrev pub Distinct : List Profile → Type 0
 Distinct [] = Unit {0}
 Distinct (p ∷ ps) = (isStored (keyOf p) ps ≡ false) × Distinct ps
-
--- ---- slots
-
-abbrev pub isFree : Slot → Bool
-isFree s = not (s .used)
-
--- the slot holds a profile of the key
-abbrev pub holding : Key → Slot → Bool
-holding k s = s .used && sameKey (keyOf (s .profile)) k
-
--- the place of the first slot that passes the test, or the number of slots
-unfoldable pub firstSlot : (Slot → Bool) → List Slot → ℕ
-firstSlot test [] = 0
-firstSlot test (s ∷ ss) = pick (test s) 0 (suc (firstSlot test ss))
-
-abbrev pub slotFor : Profile → Slot
-slotFor p = record { used = true; profile = p }

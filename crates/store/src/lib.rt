@@ -1,20 +1,31 @@
-// The accepted profiles (document 01's shelf): sixteen slots, and one profile for each country and class.
+// The accepted profiles (document 01's shelf): sixteen slots, and one profile for each country and class. A store is
+// its image, and every image is a store, also one that no run of calls makes.
+pub mod slots;
+
+use image::PROFILE_SIZE;
+use image::put_line;
 use profile::Country;
-use profile::Limit;
+use profile::LONGEST;
 use profile::Profile;
-use profile::Trip;
+use profile::rules::is_letter;
+use slots::find_free;
+use slots::find_key;
+use slots::profile_at;
+use slots::write_slot;
 ghost use mathlib.Core.Path.{_≡_};
-ghost use mathlib.Core.Bool.{true};
-ghost use mathlib.Core.List.{[]};
 ghost use Prim.Native.Nat.{_<_};
-ghost use lib.ListN.{set};
-ghost use Rattle.profile.specs.Rules.{classes, contains, letters};
-ghost use Rattle.store.specs.Keys.{keyOf, deviceKey, sameKey, hasClass, deviceOk};
-ghost use Rattle.store.specs.Stored.{capacity, stored, holding, isFree, firstSlot, slotFor};
-ghost use Rattle.store.specs.Calls.{lookupIn, lookupResult, Puts};
+ghost use lib.ListN.{length};
+ghost use Rattle.profile.specs.Rules.{classes};
+ghost use Rattle.image.specs.Image.{profileSize};
+ghost use Rattle.store.specs.Keys.{keyOf, deviceOf, deviceKey, sameKey, hasClass, deviceOk};
+ghost use Rattle.store.specs.Stored.{storeSize, slotOf};
+ghost use Rattle.store.specs.Calls.{LooksUp, Puts};
 
 // How many profiles a store holds.
-const CAPACITY: usize = 16;
+pub const CAPACITY: usize = 16;
+
+// The length of a store's image.
+pub const STORE_SIZE: usize = CAPACITY * PROFILE_SIZE;
 
 // What a profile is stored under.
 pub struct Key {
@@ -26,30 +37,6 @@ pub struct Key {
 pub struct Device {
     pub country: Country,
     pub class: u32,
-}
-
-// The profile of a slot that is not used means nothing.
-pub struct Slot {
-    pub used: bool,
-    pub profile: Profile,
-}
-
-// Every value is a store, also one that no run of calls makes.
-pub struct Store {
-    pub slots: [Slot; CAPACITY],
-}
-
-// The profile stored for a device; or there is none; or the device is not set to a country and a class.
-pub enum LookupAnswer {
-    Found(Profile),
-    NothingStored,
-    BadDevice,
-}
-
-// The number of a refusal or 0, and the store after the call.
-pub struct PutAnswer {
-    pub answer: u8,
-    pub store: Store,
 }
 
 fn key_of(profile: Profile) -> Key
@@ -72,18 +59,6 @@ fn same_key(a: Key, b: Key) -> bool
         return false;
     }
     if a.class != b.class {
-        return false;
-    }
-    true
-}
-
-fn is_letter(byte: u8) -> bool
-    ensures { λ r. ⌜ r ≡ contains letters byte ⌝ }
-{
-    if byte < b'A' {
-        return false;
-    }
-    if byte > b'Z' {
         return false;
     }
     true
@@ -144,149 +119,77 @@ fn is_for(profile: Profile, device: Device) -> bool
     same_key(key_of(profile), device_key(device))
 }
 
-// The slot holds a profile of the key.
-fn holds(slot: Slot, key: Key) -> bool
-    ensures { λ r. ⌜ r ≡ holding key slot ⌝ }
+// Whether one slot of an image is used: its first byte is not 0.
+pub fn is_used(slot: &[u8]) -> bool
+    requires { ⌜ length (now slot) ≡ profileSize ⌝ }
+    ensures { λ r. ⌜ r ≡ slotOf (now (slot .entry)) .used ⌝ }
 {
-    if !slot.used {
-        return false;
-    }
-    let profile = slot.profile;
-    same_key(key_of(profile), key)
+    slot[0] != 0
 }
 
-// The first slot that holds a profile of the key, or the number of slots.
-fn find_key(store: Store, key: Key) -> usize
-    ensures { λ r. ⌜ r ≡ firstSlot (holding key) (store .slots) ⌝ }
+// The setting that two bytes and a number make.
+pub fn device_of(country: &[u8], class: u32) -> Device
+    requires { ⌜ length (now country) ≡ 2 ⌝ }
+    ensures { λ r. ⌜ r ≡ deviceOf (now (country .entry)) class ⌝ }
 {
-    let mut i: usize = 0;
-    while i < CAPACITY {
-        let slot = store.slots[i];
-        if holds(slot, key) {
-            return i;
-        }
-        i += 1;
-    }
-    CAPACITY
-}
-
-// The first slot that is not used, or the number of slots.
-fn find_free(store: Store) -> usize
-    ensures { λ r. ⌜ r ≡ firstSlot isFree (store .slots) ⌝ }
-{
-    let mut i: usize = 0;
-    while i < CAPACITY {
-        let slot = store.slots[i];
-        if !slot.used {
-            return i;
-        }
-        i += 1;
-    }
-    CAPACITY
-}
-
-// The store with the profile in a slot.
-fn fill(store: Store, at: usize, profile: Profile) -> Store
-    requires { ⌜ at < capacity ⌝ }
-    ensures { λ r. ⌜ r .slots ≡ set (store .slots) at (slotFor profile) ⌝ }
-{
-    let mut slots = store.slots;
-    slots[at] = Slot {
-        used: true,
-        profile: profile,
+    let letters = Country {
+        first: country[0],
+        second: country[1],
     };
-    Store { slots: slots }
-}
-
-// A profile for slots that are not used.
-fn blank() -> Profile {
-    let country = Country {
-        first: 0,
-        second: 0,
-    };
-    let limit = Limit::Share(0);
-    let trip = Trip {
-        limit: limit,
-        delay: 0,
-    };
-    Profile {
-        country: country,
-        class: 0,
-        serial: 0,
-        volts: 0,
-        hertz: 0,
-        over_voltage: trip,
-        under_voltage: trip,
-        over_frequency: trip,
-        under_frequency: trip,
+    Device {
+        country: letters,
+        class: class,
     }
 }
 
-// Nothing is stored.
-pub fn empty() -> Store
-    ensures { λ r. ⌜ stored r ≡ [] ⌝ }
+// Writes the line that a store has for a country and class.
+pub fn lookup(store: &[u8], country: &[u8], class: u32, out: &mut [u8], length: &mut usize) -> u8
+    ensures { λ r.
+        ⌜ LooksUp classes (now (store .entry)) (now (country .entry)) class (now (out .entry)) (now (length .entry)) r
+        (now (out .exit)) (now (length .exit)) ⌝ }
 {
-    let profile = blank();
-    let slot = Slot {
-        used: false,
-        profile: profile,
-    };
-    let slots = [slot; CAPACITY];
-    Store { slots: slots }
-}
-
-// The profile of the country and class that the device is set to.
-pub fn lookup(store: Store, device: Device) -> LookupAnswer
-    ensures { λ r. ⌜ lookupResult r ≡ lookupIn classes device (stored store) ⌝ }
-{
+    if country.len() != 2 {
+        return 10;
+    }
+    let device = device_of(country, class);
     if !device_ok(device) {
-        return LookupAnswer::BadDevice;
+        return 10;
     }
-    let at = find_key(store, device_key(device));
-    if at < CAPACITY {
-        let slot = store.slots[at];
-        let profile = slot.profile;
-        return LookupAnswer::Found(profile);
+    if store.len() != STORE_SIZE {
+        return 1;
     }
-    LookupAnswer::NothingStored
+    if out.len() != LONGEST {
+        return 1;
+    }
+    let i = find_key(store, device_key(device));
+    if i >= CAPACITY {
+        return 9;
+    }
+    put_line(profile_at(store, i), out, length)
 }
 
 // Stores a profile of the device's own country and class, in place of an older one of these or in a free slot.
 // Callers ask `device_ok` first.
-pub fn put(store: Store, profile: Profile, device: Device) -> PutAnswer
-    ensures { λ r. ⌜ Puts device profile store r ⌝ }
+pub fn put(store: &mut [u8], profile: Profile, device: Device) -> u8
+    requires { ⌜ length (now store) ≡ storeSize ⌝ }
+    ensures { λ r. ⌜ Puts device profile (now (store .entry)) r (now (store .exit)) ⌝ }
 {
     if !is_for(profile, device) {
-        return PutAnswer {
-            answer: 6,
-            store: store,
-        };
+        return 6;
     }
     let held = find_key(store, key_of(profile));
     if held < CAPACITY {
-        let old = store.slots[held];
-        if profile.serial <= old.profile.serial {
-            return PutAnswer {
-                answer: 7,
-                store: store,
-            };
+        let old = profile_at(store, held);
+        if profile.serial <= old.serial {
+            return 7;
         }
-        let replaced = fill(store, held, profile);
-        return PutAnswer {
-            answer: 0,
-            store: replaced,
-        };
+        write_slot(store, held, profile);
+        return 0;
     }
     let free = find_free(store);
     if free >= CAPACITY {
-        return PutAnswer {
-            answer: 8,
-            store: store,
-        };
+        return 8;
     }
-    let added = fill(store, free, profile);
-    PutAnswer {
-        answer: 0,
-        store: added,
-    }
+    write_slot(store, free, profile);
+    0
 }

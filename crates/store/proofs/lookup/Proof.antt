@@ -1,99 +1,153 @@
--- `store::lookup` meets its contract: the first slot of the key holds what is found. Assumes nothing.
+-- `store::lookup` meets its contract: one check after the other, and then the line of what is found. Assumes nothing.
 use mathlib.Core.Path.{_≡_, _∙_, sym, ap}
 use mathlib.Core.Bool.{true}
 use native.Mathlib.Omega.{arith}
 use borrow.Author.Needs.{needs}
 use borrow.Author.Tests.{not-true, not-false}
+use Rattle.outcome.specs.Result.{done}
+use Rattle.profile.specs.declared.Profile.{Profile}
 use Rattle.profile.specs.Rules.{classes}
 use Rattle.store.specs.declared.Key.{Key}
-use Rattle.store.specs.Keys.{deviceKey, deviceOk}
-use Rattle.store.specs.Stored.{stored, holding, firstSlot}
+use Rattle.store.specs.Keys.{deviceOf, deviceKey, deviceOk}
+use Rattle.store.specs.Stored.{capacity, slotsOf, holding, firstSlot}
 use Rattle.store.proofs.KeyLaws.{device-class-byte}
-use Rattle.store.proofs.SlotLaws.{slots-counted, Searched, held, held-none}
-use Rattle.store.proofs.PutLaws.{lookup-bad, lookup-found, lookup-nothing}
+use Rattle.store.proofs.LookupLaws.{
+  found-here,
+  found-none,
+  lookup-country,
+  lookup-device,
+  lookup-store-size,
+  lookup-line-size,
+  lookup-none,
+  lookup-line,
+}
 use Rattle.store.proofs.lookup.Statement.{statement}
 use Rattle.store.proofs.lookup.Tie as tie
-use Rattle.store.proofs.lookup.Reads as reads
-use Rattle.store.proofs.lookup.Lts as lts
-use Rattle.store.proofs.device_ok.Reads as device-ok-reads
-use Rattle.store.proofs.device_key.Reads as device-key-reads
-use Rattle.store.proofs.find_key.Reads as find-key-reads
 
--- the place after the search for the device's key, and what is known there
-abbrev Found : Type 0
-Found =
-    lts.After-find-key (
-      device-ok-reads.Asked,
-      device-ok-reads.Learnt,
-      device-key-reads.Asked,
-      device-key-reads.Learnt,
-      find-key-reads.Asked,
-      find-key-reads.Learnt,
-    )
-    reads.Pre reads.Post
+-- where the function begins
+abbrev entry : tie.After-device-ok → tie.Start
+entry c = c .before .before .before .before .before .before
 
-ok : (found : Found) → deviceOk classes (found .before .before .before .before .args .device) ≡ true
-ok found = sym (found .before .before .before .device-ok .ensures) ∙ not-false _ (found .before .before .if1 .left)
+-- whether the device is set to a country and class
+answered : (c : tie.After-device-ok)
+    → let a = entry c .args in
+    c .device-ok .result ≡ deviceOk classes (deviceOf (a .country .now) (a .class))
+answered c = c .device-ok .ensures ∙ ap (deviceOk classes) (c .before .device-of .ensures)
 
-searched : (found : Found)
-    → let start = found .before .before .before .before .args in
-    Searched (deviceKey (start .device)) (start .t1 .slots) (found .find-key .result)
-searched found =
-    let start = found .before .before .before .before in
-    let slots = start .args .t1 .slots in
-    record {
-      size = search (needs, slots-counted);
-      first = found .find-key .ensures ∙ ap (λ (k : Key). firstSlot (holding k) slots) (found .before .device-key .ensures);
-    }
+device-set : (c : tie.Else2)
+    → let a = entry (c .before) .args in
+    deviceOk classes (deviceOf (a .country .now) (a .class)) ≡ true
+device-set c = sym (answered (c .before)) ∙ not-false _ (c .if2 .left)
+
+-- where the device is known to be set, from the search
+abbrev set-at : tie.After-find-key → tie.Else2
+set-at found = found .before .before .before .before
+
+-- the slot that was found is the first that holds the key of the device
+first : (found : tie.After-find-key)
+    → let a = entry (set-at found .before) .args in
+    found .find-key .result
+    ≡ firstSlot (holding (deviceKey (deviceOf (a .country .now) (a .class)))) (slotsOf capacity (a .store .now))
+first found =
+    let asked = set-at found .before in
+    let slots = slotsOf capacity (entry asked .args .store .now) in
+    let key = found .before .device-key .ensures ∙ ap deviceKey (asked .before .device-of .ensures) in
+    found .find-key .ensures ∙ ap (λ (k : Key). firstSlot (holding k) slots) key
+
+returns : tie.Need-returns
+returns c =
+    let a = c .before .before .before .before .args in
+    lookup-country classes (a .store .now) (a .country .now) (a .out .now) (a .class) (a .length .now) (c .if1 .taken)
+
+device-of-requires : tie.Need-device-of-requires
+device-of-requires c κs = search needs
 
 device-ok-requires : tie.Need-device-ok-requires
 device-ok-requires c κs = search needs
 
-returns : tie.Need-returns
-returns c =
-    let start = c .before .before in
-    sym (lookup-bad classes (start .args .device) (stored (start .args .t1))
-    (sym (c .before .device-ok .ensures) ∙ not-true _ (c .if1 .taken)))
+returns-2 : tie.Need-returns-2
+returns-2 c =
+    let asked = c .before in
+    let a = entry asked .args in
+    lookup-device classes (a .store .now) (a .country .now) (a .out .now) (a .class) (a .length .now)
+    (asked .before .before .if1 .left) (sym (answered asked) ∙ not-true _ (c .if2 .taken))
+
+returns-3 : tie.Need-returns-3
+returns-3 c =
+    let set = c .before in
+    let a = entry (set .before) .args in
+    lookup-store-size classes (a .store .now) (a .country .now) (a .out .now) (a .class) (a .length .now)
+    (set .before .before .before .if1 .left) (device-set set) (c .if3 .taken)
+
+returns-4 : tie.Need-returns-4
+returns-4 c =
+    let sized = c .before in
+    let set = sized .before in
+    let a = entry (set .before) .args in
+    lookup-line-size classes (a .store .now) (a .country .now) (a .out .now) (a .class) (a .length .now)
+    (set .before .before .before .if1 .left) (device-set set) (sized .if3 .left) (c .if4 .taken)
 
 device-key-requires : tie.Need-device-key-requires
 device-key-requires c κs =
-    let start = c .before .before in
-    device-class-byte (start .args .device) (sym (c .before .device-ok .ensures) ∙ not-false _ (c .if1 .left))
+    let set = c .before .before in
+    let asked = set .before in
+    device-class-byte classes (tt, (tt, (tt, (tt, tt)))) (asked .before .device-of .result)
+    (sym (asked .device-ok .ensures) ∙ not-false _ (set .if2 .left))
 
 find-key-requires : tie.Need-find-key-requires
 find-key-requires c κs = search needs
 
-mul-slot : tie.Need-mul-slot
-mul-slot c = search needs
-
-element-copy-out-slot : tie.Need-element-copy-out-slot
-element-copy-out-slot c = search needs
-
-returns-2 : tie.Need-returns-2
-returns-2 c =
-    let found = c .before .before .before in
-    let start = found .before .before .before .before .args in
-    let there = c .before .before .if2 .taken in
-    let it = held (searched found) (omega arith) in
-    sym (lookup-found classes (start .device) (stored (start .t1)) (ok found) _ it)
-
-returns-3 : tie.Need-returns-3
-returns-3 c =
+returns-5 : tie.Need-returns-5
+returns-5 c =
+    let nowhere = c .if5 .taken in
     let found = c .before in
-    let start = found .before .before .before .before .args in
-    let nowhere = c .if2 .left in
-    let none = held-none (searched found) (omega arith) in
-    sym (lookup-nothing classes (start .device) (stored (start .t1)) (ok found) none)
+    let room = found .before .before in
+    let set = set-at found in
+    let a = entry (set .before) .args in
+    let d = deviceOf (a .country .now) (a .class) in
+    let none = found-none classes (a .store .now) d _ (device-set set) (first found) (omega arith) in
+    lookup-none classes (a .store .now) (a .country .now) (a .out .now) (a .class) (a .length .now)
+    (set .before .before .before .if1 .left) (device-set set) (room .before .if3 .left) (room .if4 .left) none
+
+profile-at-requires : tie.Need-profile-at-requires
+profile-at-requires c κs = search needs
+
+put-line-requires : tie.Need-put-line-requires
+put-line-requires c κs = search needs
+
+same-length : tie.Need-same-length
+same-length c = search needs
+
+returns-6 : tie.Need-returns-6
+returns-6 c =
+    let wrote = c .before .before in
+    let read = wrote .before .before .before in
+    let there = read .before .if5 .left in
+    let found = read .before .before in
+    let room = found .before .before in
+    let set = set-at found in
+    let a = entry (set .before) .args in
+    let d = deviceOf (a .country .now) (a .class) in
+    let here = found-here classes (a .store .now) d _ (device-set set) (first found) (omega arith) in
+    let it = ap (λ (p : Profile). done p) (read .profile-at .ensures) ∙ here in
+    lookup-line classes (a .store .now) (a .country .now) (a .out .now) (a .class) (a .length .now)
+    (set .before .before .before .if1 .left) (device-set set) (room .before .if3 .left) (room .if4 .left) _ it
+    (wrote .put-line .ensures)
 
 pub lookup-spec : {M : Type 1} → statement M
 lookup-spec =
     tie.close
     (tie.spec
-    device-ok-requires
     returns
+    device-of-requires
+    device-ok-requires
+    returns-2
+    returns-3
+    returns-4
     device-key-requires
     find-key-requires
-    mul-slot
-    element-copy-out-slot
-    returns-2
-    returns-3)
+    returns-5
+    profile-at-requires
+    put-line-requires
+    same-length
+    returns-6)

@@ -1,0 +1,70 @@
+-- `store::slots::slot_holds` meets its contract: each test that fails decides. Assumes nothing.
+use mathlib.Core.Path.{_∙_, sym}
+use borrow.Author.Needs.{needs}
+use borrow.Author.Tests.{eq-eqb, ne-eqb, not-true, not-false}
+use Rattle.image.specs.Image.{profileOf}
+use Rattle.store.specs.Keys.{sameKey}
+use Rattle.store.proofs.slots.slot_holds.Statement.{statement}
+use Rattle.store.proofs.slots.slot_holds.Tie as tie
+
+is-used-requires : tie.Need-is-used-requires
+is-used-requires c κs = search needs
+
+returns : tie.Need-returns
+returns c = simp (sym (c .before .is-used .ensures) ∙ not-true _ (c .if1 .taken))
+
+shared-slice-read-if2 : tie.Need-shared-slice-read-if2
+shared-slice-read-if2 c = search needs
+
+returns-2 : tie.Need-returns-2
+unfolding sameKey profileOf
+returns-2 c =
+    let first = c .before .before .before in
+    let used = sym (first .before .is-used .ensures) ∙ not-false _ (first .if1 .left) in
+    simp (used, ne-eqb _ _ (c .if2 .taken))
+
+shared-slice-read-if3 : tie.Need-shared-slice-read-if3
+shared-slice-read-if3 c = search needs
+
+returns-3 : tie.Need-returns-3
+unfolding sameKey profileOf
+returns-3 c =
+    let second = c .before .before .before in
+    let first = second .before .before .before in
+    let used = sym (first .before .is-used .ensures) ∙ not-false _ (first .if1 .left) in
+    simp (used, eq-eqb _ _ (second .if2 .left), ne-eqb _ _ (c .if3 .taken))
+
+shared-slice-read-if4 : tie.Need-shared-slice-read-if4
+shared-slice-read-if4 c = search needs
+
+returns-4 : tie.Need-returns-4
+unfolding sameKey profileOf
+returns-4 c =
+    let third = c .before .before .before in
+    let second = third .before .before .before in
+    let first = second .before .before .before in
+    let used = sym (first .before .is-used .ensures) ∙ not-false _ (first .if1 .left) in
+    simp (used, eq-eqb _ _ (second .if2 .left), eq-eqb _ _ (third .if3 .left), ne-eqb _ _ (c .if4 .taken))
+
+returns-5 : tie.Need-returns-5
+unfolding sameKey profileOf
+returns-5 c =
+    let third = c .before .before .before in
+    let second = third .before .before .before in
+    let first = second .before .before .before in
+    let used = sym (first .before .is-used .ensures) ∙ not-false _ (first .if1 .left) in
+    simp (used, eq-eqb _ _ (second .if2 .left), eq-eqb _ _ (third .if3 .left), eq-eqb _ _ (c .if4 .left))
+
+pub slot-holds-spec : {M : Type 1} → statement M
+slot-holds-spec =
+    tie.close
+    (tie.spec
+    is-used-requires
+    returns
+    shared-slice-read-if2
+    returns-2
+    shared-slice-read-if3
+    returns-3
+    shared-slice-read-if4
+    returns-4
+    returns-5)

@@ -1,0 +1,89 @@
+// The slots of a store's image. A search reads the bytes of a slot that decide, and not the profile.
+use super::CAPACITY;
+use super::Key;
+use super::is_used;
+use image::PROFILE_SIZE;
+use image::read::read_profile;
+use image::write::write_profile;
+use profile::Profile;
+ghost use mathlib.Core.Path.{_≡_};
+ghost use Prim.Native.Nat.{_<_};
+ghost use lib.ListN.{length};
+ghost use Rattle.image.specs.Image.{profileSize, profileOf};
+ghost use Rattle.store.specs.Stored.{capacity, storeSize, slotOf, slotsOf, slotBytes, SlotWritten, isFree, holding, firstSlot};
+
+// The slot holds a profile of the key.
+fn slot_holds(slot: &[u8], key: Key) -> bool
+    requires { ⌜ length (now slot) ≡ profileSize ⌝ }
+    ensures { λ r. ⌜ r ≡ holding key (slotOf (now (slot .entry))) ⌝ }
+{
+    if !is_used(slot) {
+        return false;
+    }
+    if slot[1] != key.country.first {
+        return false;
+    }
+    if slot[2] != key.country.second {
+        return false;
+    }
+    if slot[3] != key.class {
+        return false;
+    }
+    true
+}
+
+// The first slot that holds a profile of the key, or the number of slots.
+pub fn find_key(store: &[u8], key: Key) -> usize
+    requires { ⌜ length (now store) ≡ storeSize ⌝ }
+    ensures { λ r. ⌜ r ≡ firstSlot (holding key) (slotsOf capacity (now (store .entry))) ⌝ }
+{
+    let mut i: usize = 0;
+    while i < CAPACITY {
+        let at = PROFILE_SIZE * i;
+        let end = at + PROFILE_SIZE;
+        if slot_holds(&store[at..end], key) {
+            return i;
+        }
+        i += 1;
+    }
+    CAPACITY
+}
+
+// The first slot that is not used, or the number of slots.
+pub fn find_free(store: &[u8]) -> usize
+    requires { ⌜ length (now store) ≡ storeSize ⌝ }
+    ensures { λ r. ⌜ r ≡ firstSlot isFree (slotsOf capacity (now (store .entry))) ⌝ }
+{
+    let mut i: usize = 0;
+    while i < CAPACITY {
+        let at = PROFILE_SIZE * i;
+        let end = at + PROFILE_SIZE;
+        if !is_used(&store[at..end]) {
+            return i;
+        }
+        i += 1;
+    }
+    CAPACITY
+}
+
+// The profile in a slot. That of a slot that is not used means nothing.
+pub fn profile_at(store: &[u8], i: usize) -> Profile
+    requires { ⌜ length (now store) ≡ storeSize ⌝ }
+    requires { ⌜ i < capacity ⌝ }
+    ensures { λ r. ⌜ r ≡ profileOf (slotBytes i (now (store .entry))) ⌝ }
+{
+    let at = PROFILE_SIZE * i;
+    let end = at + PROFILE_SIZE;
+    read_profile(&store[at..end])
+}
+
+// Writes a profile into a slot, and no other byte.
+pub fn write_slot(store: &mut [u8], i: usize, profile: Profile)
+    requires { ⌜ length (now store) ≡ storeSize ⌝ }
+    requires { ⌜ i < capacity ⌝ }
+    ensures { λ r. ⌜ SlotWritten i profile (now (store .entry)) (now (store .exit)) ⌝ }
+{
+    let at = PROFILE_SIZE * i;
+    let end = at + PROFILE_SIZE;
+    write_profile(profile, &mut store[at..end]);
+}
