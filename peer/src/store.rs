@@ -132,6 +132,13 @@ pub fn load(image: &mut [u8], key: &[u8], package: &[u8], device: &Device, verif
     crate::refusal::answer(loaded(), image)
 }
 
+/// Whether just one slot of an image was written, and holds the profile; which slot it is, is open.
+pub fn wrote_one_slot(old: &[u8], new: &[u8], profile: &Profile) -> bool {
+    let slots = old.chunks_exact(IMAGE).zip(new.chunks_exact(IMAGE));
+    let written: Vec<_> = slots.filter(|(before, after)| before != after).collect();
+    old.len() == new.len() && matches!(written[..], [(_, slot)] if slot == image(profile))
+}
+
 /// Writes the line stored for a device: 10, 1, 9; 5 where an image holds what no load stored.
 pub fn lookup(image: &[u8], device: &Device, line: &mut [u8], length: usize) -> (u8, usize) {
     let make = || {

@@ -3,11 +3,11 @@
 use peer::archive;
 use peer::fast;
 use peer::harness::{Lent, Tally};
-use peer::line::{write_line, Profile, LONGEST};
+use peer::line::{read_line, write_line, Profile, LONGEST};
 use peer::rng::Rng;
 use peer::scheme;
 use peer::sizes::{Sizes, CATEGORY_1};
-use peer::store::{self, Device, Store, Verify, STORE};
+use peer::store::{self, wrote_one_slot, Device, Store, Verify, STORE};
 
 pub const S: Sizes = CATEGORY_1;
 
@@ -71,6 +71,9 @@ impl Both {
         let expected = store::load(&mut self.plain, sent.key, sent.package, device, verify);
         if answer != 0 {
             assert!(lent.content() == self.proved, "after a refused load, {}", shown());
+        } else {
+            let profile = read_line(&sent.package[S.signature()..]).expect("a line that was loaded");
+            assert!(wrote_one_slot(&self.proved, lent.content(), &profile), "slots after a load, {}", shown());
         }
         self.proved = lent.content().to_vec();
         t.count(answer, expected, shown);

@@ -7,7 +7,7 @@ use crate::world::{Package, S};
 use peer::archive::c;
 use peer::fast::scheme as plain;
 use peer::line::cases::{any_image, valid};
-use peer::line::{image, write_line, Profile, IMAGE, LONGEST, SHORTEST};
+use peer::line::{image, read_line, write_line, Profile, IMAGE, LONGEST, SHORTEST};
 use peer::rng::Rng;
 use peer::store::{self, Device, Store, CAPACITY};
 
@@ -167,6 +167,11 @@ fn compare_load(t: &mut Turn, input: &Loading) -> u8 {
     if answer == 0 {
         let [own, other] = [store.content(), &expected].map(|image| Store::from_image(image).sorted());
         assert_eq!(own, other, "the store after a package for {country:?} {class}");
+        let profile = read_line(&package[SIGNATURE..]).expect("a line that was loaded");
+        assert!(
+            store::wrote_one_slot(image, store.content(), &profile),
+            "slots after a package for {country:?} {class}"
+        );
     } else {
         store.demand_unchanged();
     }
