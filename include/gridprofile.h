@@ -203,15 +203,16 @@ uint8_t gridprofile_make_package(const uint8_t *private_seed, size_t private_see
                                  size_t line_len, uint8_t *package, size_t package_len,
                                  size_t *length);
 
-/* Loads a package into a store, on a device that is set to a country (two letters) and a class (the
- * letter's number, 65 to 68). A store is an image of GRIDPROFILE_STORE_IMAGE_BYTES, 16 images of
- * profiles, all zero when it is empty; a slot whose first byte is 0 is free. Which slot a profile
- * goes to is open. A greater serial replaces the stored profile of its country and class. Refuses,
- * in this order, with 10 where country or class are none (a country of another length too); with 1
- * where image or key have another length or the package has not GRIDPROFILE_PACKAGE_MIN_BYTES to
- * GRIDPROFILE_PACKAGE_MAX_BYTES; with 3, 2 and 4 as gridprofile_verify does; with 5 where the line
- * breaks a rule; with 6 where the profile is for another country or class; with 7 where its serial
- * is not greater than the stored one; with 8 where 16 others are stored. */
+/* Loads a package into a store, on a device that is set to a country (two letters) and a class
+ * (the letter's number, 65 to 68). A store is an image of GRIDPROFILE_STORE_IMAGE_BYTES, 16 images
+ * of profiles, all zero when it is empty; a slot whose first byte is 0 is free. Which slot a
+ * profile goes to is open; no byte of another slot is written. A greater serial replaces the
+ * stored profile of its country and class. Refuses, in this order, with 10 where country or class
+ * are none (a country of another length too); with 1 where image or key have another length or the
+ * package has not GRIDPROFILE_PACKAGE_MIN_BYTES to GRIDPROFILE_PACKAGE_MAX_BYTES; with 3, 2 and 4
+ * as gridprofile_verify does; with 5 where the line breaks a rule; with 6 where the profile is for
+ * another country or class; with 7 where its serial is not greater than the stored one; with 8
+ * where 16 others are stored. */
 uint8_t gridprofile_load(uint8_t *store, size_t store_len, const uint8_t *key, size_t key_len,
                          const uint8_t *package, size_t package_len, const uint8_t *country,
                          size_t country_len, uint32_t class_letter);
