@@ -1,42 +1,39 @@
 // The scheme at tiny sizes, only for the tests that run it beside another program: a draw that falls short is too rare
 // at the sizes of a category to be met there. No part of the C interface.
 use parameters::Params;
-ghost use mathlib.Core.Path.{_≡_};
-ghost use lib.ListN.{length};
-ghost use Rattle.outcome.specs.Answer.{Answers};
 ghost use Rattle.tiny_sizes.specs.Tiny.{tiny};
-ghost use Rattle.scheme.specs.Key.{makeKeyChecks, publicKey};
-ghost use Rattle.scheme.specs.Sign.{signChecks, signature};
-ghost use Rattle.scheme.specs.Verify.{verify as verifyOf};
-ghost use Rattle.scheme.specs.Examine.{examine};
+ghost use Rattle.scheme.specs.Entries.{MakesKey, Signs, Verifies, VerifiesRound};
 
-fn sizes() -> Params
-    ensures { λ r. ⌜ r ≡ tiny ⌝ }
-{
-    Params {
-        n: 4,
-        k: 2,
-        t: 5,
-        w: 3,
-        digest: 3,
-        seed: 2,
-        rate: 168,
-        matrix: 4,
-        exponents: 2,
-        mask: 4,
-        first: 5,
-        second: 8,
-    }
-}
+const TINY: Params = Params {
+    n: 4,
+    k: 2,
+    t: 5,
+    w: 3,
+    digest: 3,
+    seed: 2,
+    rate: 168,
+    matrix: 4,
+    exponents: 2,
+    mask: 4,
+    first: 5,
+    second: 8,
+};
+
+// Lent scratch: V with the rest of its last group, the seeds of all rounds, what is kept of them.
+const DRAWN_MATRIX: usize = (TINY.n - TINY.k) * TINY.k + 8;
+
+const SEEDS: usize = TINY.t * TINY.seed;
+
+const STATES: usize = TINY.t * (2 * TINY.n + 2 * TINY.digest);
 
 // The public key of a private seed.
 #[no_mangle]
 pub extern "C" fn tiny_make_key(private: &[u8], key: &mut [u8]) -> u8
-    ensures { λ r. ⌜ Answers (makeKeyChecks tiny (now (private .entry)) (length (now (key .entry)))) (publicKey tiny (now (private .entry))) (now (key .entry)) r (now (key .exit)) ⌝ }
+    ensures { λ r. ⌜ MakesKey tiny (now (private .entry)) (now (key .entry)) r (now (key .exit)) ⌝ }
 {
-    let mut block = [0u8; 4];
-    let mut vs = [0u8; 12];
-    keygen::make_key(sizes(), private, &mut block, &mut vs, key)
+    let mut block = [0u8; TINY.matrix];
+    let mut vs = [0u8; DRAWN_MATRIX];
+    keygen::make_key(TINY, private, &mut block, &mut vs, key)
 }
 
 // The signature of a message.
@@ -48,14 +45,16 @@ pub extern "C" fn tiny_sign(
     msg: &[u8],
     sig: &mut [u8],
 ) -> u8
-    ensures { λ r. ⌜ Answers (signChecks tiny (now (private .entry)) (now (master .entry)) (now (salt .entry)) (now (msg .entry)) (length (now (sig .entry)))) (signature tiny (now (private .entry)) (now (master .entry)) (now (salt .entry)) (now (msg .entry))) (now (sig .entry)) r (now (sig .exit)) ⌝ }
+    ensures { λ r.
+        ⌜ Signs tiny (now (private .entry)) (now (master .entry)) (now (salt .entry)) (now (msg .entry))
+        (now (sig .entry)) r (now (sig .exit)) ⌝ }
 {
-    let mut block = [0u8; 4];
-    let mut vs = [0u8; 12];
-    let mut seeds = [0u8; 10];
-    let mut states = [0u8; 70];
+    let mut block = [0u8; TINY.matrix];
+    let mut vs = [0u8; DRAWN_MATRIX];
+    let mut seeds = [0u8; SEEDS];
+    let mut states = [0u8; STATES];
     signer::sign::sign(
-        sizes(),
+        TINY,
         private,
         master,
         salt,
@@ -71,11 +70,11 @@ pub extern "C" fn tiny_sign(
 // Whether a signature is one of the message under the key.
 #[no_mangle]
 pub extern "C" fn tiny_verify(key: &[u8], msg: &[u8], sig: &[u8]) -> u8
-    ensures { λ r. ⌜ r ≡ verifyOf tiny (now (key .entry)) (now (msg .entry)) (now (sig .entry)) ⌝ }
+    ensures { λ r. ⌜ Verifies tiny (now (key .entry)) (now (msg .entry)) (now (sig .entry)) r ⌝ }
 {
-    let mut block = [0u8; 4];
-    let mut vs = [0u8; 12];
-    verifier::verify::verify(sizes(), key, msg, sig, &mut block, &mut vs)
+    let mut block = [0u8; TINY.matrix];
+    let mut vs = [0u8; DRAWN_MATRIX];
+    verifier::verify::verify(TINY, key, msg, sig, &mut block, &mut vs)
 }
 
 // The round examiner: one round, given its challenges and commitments.
@@ -91,12 +90,14 @@ pub extern "C" fn tiny_verify_round(
     challenge: u32,
     reply: &[u8],
 ) -> u8
-    ensures { λ r. ⌜ r ≡ examine tiny (now (key .entry)) (now (salt .entry)) i (now (c0 .entry)) (now (c1 .entry)) beta (now (h .entry)) challenge (now (reply .entry)) ⌝ }
+    ensures { λ r.
+        ⌜ VerifiesRound tiny (now (key .entry)) (now (salt .entry)) i (now (c0 .entry)) (now (c1 .entry)) beta
+        (now (h .entry)) challenge (now (reply .entry)) r ⌝ }
 {
-    let mut block = [0u8; 4];
-    let mut vs = [0u8; 12];
+    let mut block = [0u8; TINY.matrix];
+    let mut vs = [0u8; DRAWN_MATRIX];
     verifier::examine::examine(
-        sizes(),
+        TINY,
         key,
         salt,
         i,
