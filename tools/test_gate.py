@@ -2,6 +2,7 @@
 
 import os
 import sys
+import tempfile
 import unittest
 
 sys.path.insert(0, os.path.dirname(os.path.abspath(__file__)))
@@ -69,19 +70,84 @@ pub extern "C" fn asking(x: u8) -> u8
 
 
 class Entries(unittest.TestCase):
+    def clauses(self, name):
+        return [entries.clauses(CODE, head) for head in entries.heads(CODE, name)]
+
     def test_clauses_stop_at_the_body(self):
-        self.assertEqual(entries.clauses(CODE, "promised"), ["ensures", "ensures"])
-        self.assertEqual(entries.clauses(CODE, "bare"), [])
-        self.assertEqual(entries.clauses(CODE, "asking"), ["requires", "ensures"])
-        self.assertIsNone(entries.clauses(CODE, "promise"))
+        self.assertEqual(self.clauses("promised"), [["ensures", "ensures"]])
+        self.assertEqual(self.clauses("bare"), [[]])
+        self.assertEqual(self.clauses("asking"), [["requires", "ensures"]])
+        self.assertEqual(self.clauses("promise"), [])
 
     def test_problems(self):
         self.assertIsNone(entries.problem(CODE, "promised", "c"))
         for name in ("bare", "asking", "missing"):
             self.assertIsNotNone(entries.problem(CODE, name, "c"))
 
+    def test_a_name_in_two_modules_is_a_problem(self):
+        self.assertIsNotNone(entries.problem(CODE + CODE, "promised", "c"))
+
     def test_exports(self):
         self.assertEqual(entries.exported(CODE), ["asking"])
+
+
+INTERFACE = """
+#[no_mangle]
+pub extern "C" fn gridprofile_one(x: u8) -> u8
+    ensures { λ r. ⌜ r ≡ x ⌝ }
+{
+    inner::one(x)
+}
+"""
+MODULE = INTERFACE.replace("_one", "_two")
+HEADER = "/* uint8_t gridprofile_none(void); */\nuint8_t gridprofile_one(uint8_t x);\nuint8_t gridprofile_two(uint8_t x);\n"
+INNER = "pub fn one(x: u8) -> u8\n    ensures { λ r. ⌜ r ≡ x ⌝ }\n{\n    x\n}\n"
+LIST = "# a comment\none inner gridprofile_one\ngridprofile_two gridprofile gridprofile_two\n"
+
+
+class EntriesOfARepository(unittest.TestCase):
+    """The check as a whole, over a small repository: it is sound, and each thing that is taken away is missed."""
+
+    def problems(self, **changed):
+        texts = {"list": LIST, "header": HEADER, "interface": INTERFACE, "module": MODULE, "inner": INNER, **changed}
+        paths = {
+            "list": entries.LIST,
+            "header": entries.HEADER,
+            "interface": "crates/gridprofile/src/lib.rt",
+            "module": "crates/gridprofile/src/category1.rt",
+            "inner": "crates/inner/src/lib.rt",
+        }
+        with tempfile.TemporaryDirectory() as root:
+            for part, path in paths.items():
+                os.makedirs(os.path.dirname(os.path.join(root, path)), exist_ok=True)
+                with open(os.path.join(root, path), "w") as file:
+                    file.write(texts[part])
+            return [problem for _, problem in entries.check(root) if problem]
+
+    def test_a_sound_one_has_no_problem(self):
+        self.assertEqual(self.problems(), [])
+
+    def test_list_exports_and_header_agree(self):
+        for changed in (
+            {"list": LIST.replace("gridprofile_two gridprofile gridprofile_two\n", "")},
+            {"list": LIST + LIST},
+            {"module": ""},
+            {"module": MODULE.replace("#[no_mangle]\n", "")},
+            {"header": HEADER.replace("_two", "_three")},
+        ):
+            self.assertNotEqual(self.problems(**changed), [], changed)
+
+    def test_both_functions_of_an_entry_are_looked_at(self):
+        for changed in (
+            {"inner": INNER.replace("ensures", "requires")},
+            {"interface": INTERFACE.replace("ensures", "requires")},
+            {"module": MODULE.replace("ensures", "requires")},
+            {"list": LIST.replace("gridprofile_two gridprofile ", "gridprofile_one gridprofile ")},
+        ):
+            self.assertNotEqual(self.problems(**changed), [], changed)
+
+    def test_only_the_interface_exports(self):
+        self.assertNotEqual(self.problems(inner=INNER.replace("pub fn", '#[no_mangle]\npub extern "C" fn')), [])
 
 
 if __name__ == "__main__":

@@ -1,20 +1,20 @@
--- Making a package and loading it, put together: what was made lies within what was lent; and where making answers 0, so
--- do making the key and loading, and the lookup gives the profile.
+-- Making a package and loading it, put together, at all sound sizes: what was made lies within what was lent; and where
+-- making answers 0, so do making the key and loading, and the lookup gives the profile.
 -- Assumes nothing.
 use mathlib.Core.Path.{_≡_, _∙_, sym, ap}
 use mathlib.Core.List.{List}
 use Prim.Native.Nat.{ℕ, zero, suc, _+_, _≤_}
 use native.Mathlib.Omega.{arith}
 use borrow.Author.Tests.{ne-eqb}
-use lib.ListN.{length, replicate, take, drop, length-append}
-use Rattle.outcome.specs.Answer.{Check, Answers, AnswersFront}
-use Rattle.parameters.specs.Categories.{category1}
-use Rattle.parameters.proofs.Sound.{sound-1}
+use lib.ListN.{length, take, drop, length-append}
+use lib.Seq.{length-take-le}
+use Rattle.outcome.specs.Answer.{Check, AnswersFront}
+use Rattle.parameters.specs.declared.Params.{Params}
+use Rattle.parameters.specs.Sound.{Sound}
 use Rattle.profile.specs.declared.Profile.{Profile}
 use Rattle.profile.specs.Line.{lineOf}
-use Rattle.scheme.specs.Key.{makeKeyChecks, publicKey, keySize}
+use Rattle.scheme.specs.Key.{publicKey}
 use Rattle.scheme.specs.Sign.{signatureSize}
-use Rattle.scheme.proofs.Keyed.{keyed}
 use Rattle.store.specs.declared.Device.{Device}
 use Rattle.store.specs.declared.Store.{Store}
 use Rattle.store.specs.declared.PutAnswer.{PutAnswer}
@@ -22,42 +22,48 @@ use Rattle.package.specs.Entries.{MakesPackage, Loads}
 use Rattle.package.proofs.TheoremLaws.{made-passed}
 use Rattle.package.proofs.Theorems.{made-loads}
 use Rattle.duty.specs.declared.Loaded.{Loaded}
-use Rattle.duty.specs.Carried.{MakesAndLoads}
+use Rattle.duty.specs.Carried.{MakesKeyAnew, MakesAndLoads}
+use Rattle.duty.proofs.Carry.{key-made}
 
 -- what was written at the front lies within what was lent; after a refusal it is nothing
-pub made-within : {cs : List Check} (made old : List ℕ) (k : ℕ) (lent : List ℕ) (size : ℕ)
+pub made-within : {cs : List Check} {made old : List ℕ} {k : ℕ} {lent : List ℕ} {size : ℕ}
     → AnswersFront cs made old 0 k lent size → size ≤ length lent
-made-within made old zero lent size a =
+made-within {made = made} {old = old} {k = zero} {lent = lent} a =
     let whole : length lent ≡ length made + length (drop (length made) old) =
     ap (λ (l : List ℕ). length l) (a .answers .content) ∙ length-append made (drop (length made) old) in
     omega (arith, whole, a .size)
-made-within made old (suc k) lent size a =
+made-within {k = suc k} {size = size} a =
     let none : size ≡ 0 = rw (ne-eqb (suc k) 0 (λ z. omega arith)) at (a .size) in
     omega (arith, none)
 
-pub makes-and-loads : (private master salt : List ℕ) (profile : Profile) (device : Device) (store : Store) (old : List ℕ)
-    (r : Loaded) (key out : List ℕ) (size : ℕ)
-    → Answers (makeKeyChecks category1 private (keySize category1)) (publicKey category1 private)
-    (replicate 77 0) (r .key) key
-    → MakesPackage category1 private master salt profile old 0 (r .make) out size
-    → Loads category1 key (take size out) device store (record { answer = r .load; store = r .store })
-    → MakesAndLoads private master salt profile device store old r out
-makes-and-loads private master salt profile device store old r key out size wrote made loaded =
+-- and so its length is what was given
+pub made-length : {cs : List Check} {made old : List ℕ} {k : ℕ} {lent : List ℕ} {size : ℕ}
+    → AnswersFront cs made old 0 k lent size → size ≡ length (take size lent)
+made-length a = sym (length-take-le _ _ (made-within a))
+
+pub makes-and-loads : {p : Params} → Sound p
+    → {private master salt : List ℕ} {profile : Profile} {device : Device} {store : Store} {old : List ℕ} {r : Loaded}
+    {public out : List ℕ} {size : ℕ}
+    → MakesKeyAnew p private (r .key) public
+    → MakesPackage p private master salt profile old 0 (r .make) out size
+    → Loads p public (take size out) device store (record { answer = r .load; store = r .store })
+    → MakesAndLoads p private master salt profile device store old r out
+makes-and-loads {p} sound {private} {master} {salt} {profile} {device} {store} {old} {r} {public} {out} {size}
+    wrote made loaded =
     let put : PutAnswer = record { answer = r .load; store = r .store } in
     record {
-      key-answer = wrote .answer;
+      public = public;
+      key-answer = wrote;
       size = size;
       make-answer = made;
-      load-answer = rw (← wrote .content) loaded;
+      load-answer = loaded;
       loads = λ zero country class newer room.
-          let sealed : MakesPackage category1 private master salt profile old 0 0 out size = rw zero at made in
-          let passed = made-passed category1 private master salt profile (length old) (sym (sealed .answers .answer)) in
-          let key-zero : r .key ≡ 0 =
-          wrote .answer ∙ keyed category1 private master salt (lineOf profile) (signatureSize category1) (passed .1) in
-          let public : key ≡ publicKey category1 private = rw key-zero at (wrote .content) in
-          let loads : Loads category1 (publicKey category1 private) (take size out) device store put = rw public at loaded in
+          let sealed : MakesPackage p private master salt profile old 0 0 out size = rw zero at made in
+          let passed = made-passed p private master salt profile (length old) (sym (sealed .answers .answer)) in
+          let key = key-made p private master salt (lineOf profile) (signatureSize p) (r .key) wrote (passed .1) in
+          let loads : Loads p (publicKey p private) (take size out) device store put = rw (key .1) at loaded in
           let both =
-          made-loads category1 sound-1 private master salt profile old out 0 size device store put
+          made-loads p sound private master salt profile old out 0 size device store put
           sealed country class newer room loads in
-          (key-zero, both .0, both .1);
+          (key .0, both .0, both .1);
     }

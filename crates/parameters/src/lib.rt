@@ -1,7 +1,5 @@
 // The sizes of a category, as plain numbers. The code of the scheme takes them as an argument, so that another
-// category is another set of numbers.
-ghost use mathlib.Core.Path.{_≡_};
-ghost use Rattle.parameters.specs.Categories.{category1 as numbers1};
+// category is another set of numbers: a constant here, and the same in specs/Categories, which the contracts cite.
 
 pub struct Params {
     // places of a vector, and how many of them the matrix V covers
@@ -65,23 +63,3 @@ pub const PACKED_CHALLENGES: usize = ROUNDS * 7 / 8;
 pub const BLOCK: usize = 384;
 
 pub const SECOND_BLOCK: usize = 1024;
-
-// The same as a value.
-pub fn category1() -> Params
-    ensures { λ r. ⌜ r ≡ numbers1 ⌝ }
-{
-    Params {
-        n: 127,
-        k: 76,
-        t: 163,
-        w: 85,
-        digest: 32,
-        seed: 16,
-        rate: 168,
-        matrix: 3500,
-        exponents: 96,
-        mask: 140,
-        first: 196,
-        second: 400,
-    }
-}

@@ -1,0 +1,27 @@
+-- `make_and_load`: what was made lies within what was lent, and the three answers, put together. Assumes nothing.
+use borrow.Author.Needs.{needs}
+use Rattle.parameters.proofs.Sound.{sound-1}
+use Rattle.duty.proofs.CarryLoad.{made-within, made-length, makes-and-loads}
+use Rattle.duty.proofs.category1.make_and_load.Statement.{statement}
+use Rattle.duty.proofs.category1.make_and_load.Tie as tie
+
+returns : tie.Need-returns
+returns c =
+    let made = c .before .before .before .before .before .before in
+    let keyed = made .before .before .before .before in
+    makes-and-loads sound-1 (keyed .gridprofile-make-key .ensures) (made .make-package .ensures)
+    (c .before .load .ensures)
+
+pub make-and-load-spec : {M : Type 1} → statement M
+make-and-load-spec =
+    tie.close
+    (tie.spec
+    (λ c. search needs)
+    (λ c κs. search needs)
+    (λ c κs. search needs)
+    (λ c. search needs)
+    (λ c. made-within (c .before .before .before .make-package .ensures))
+    (λ c. made-length (c .before .before .before .before .make-package .ensures))
+    (λ c κs. search needs)
+    (λ c. search needs)
+    returns)

@@ -1,0 +1,103 @@
+// The theorems of what C calls at category 1. Another category is this file with the next lines of its own.
+use gridprofile::category1::gridprofile_make_key as make_key;
+use gridprofile::category1::gridprofile_sign as sign;
+use gridprofile::category1::gridprofile_verify as verify;
+use gridprofile::category1::gridprofile_verify_round as verify_round;
+use gridprofile::category1::load;
+use gridprofile::category1::make_package;
+use parameters::CATEGORY1 as P;
+ghost use Rattle.parameters.specs.Categories.{category1 as p};
+use crate::Examined;
+use crate::Loaded;
+use crate::Signed;
+use profile::Profile;
+use store::Device;
+use store::Store;
+ghost use Rattle.duty.specs.Carried.{SignsAndVerifies, ExaminesFour, MakesAndLoads};
+
+// Bytes of a public key.
+const KEY: usize = P.digest + (7 * (P.n - P.k) + 7) / 8;
+
+// First half: where signing answers 0, the verifier accepts what it wrote, under the key that make_key wrote.
+pub fn sign_and_verify(
+    private: &[u8],
+    master: &[u8],
+    salt: &[u8],
+    msg: &[u8],
+    sig: &mut [u8],
+) -> Signed
+    ensures { λ r.
+        ⌜ SignsAndVerifies p (now (private .entry)) (now (master .entry)) (now (salt .entry)) (now (msg .entry))
+        (now (sig .entry)) r (now (sig .exit)) ⌝ }
+{
+    let mut public = [0u8; KEY];
+    let key_answer = make_key(private, &mut public);
+    let sign_answer = sign(private, master, salt, msg, sig);
+    let verify_answer = verify(&public, msg, sig);
+    Signed {
+        key: key_answer,
+        sign: sign_answer,
+        verify: verify_answer,
+    }
+}
+
+// Second half: four replies to one commitment pair that all pass open the key, or a pair of strings excuses.
+pub fn examine_four(
+    key: &[u8],
+    salt: &[u8],
+    i: u32,
+    c0: &[u8],
+    c1: &[u8],
+    beta: u32,
+    other: u32,
+    h: &[u8],
+    h_other: &[u8],
+    r0: &[u8],
+    r1: &[u8],
+    s0: &[u8],
+    s1: &[u8],
+) -> Examined
+    ensures { λ r.
+        ⌜ ExaminesFour p (now (key .entry)) (now (salt .entry)) i (now (c0 .entry)) (now (c1 .entry)) beta other
+        (now (h .entry)) (now («h_other» .entry)) (now (r0 .entry)) (now (r1 .entry))
+        (now (s0 .entry)) (now (s1 .entry)) r ⌝ }
+{
+    let a = verify_round(key, salt, i, c0, c1, beta, h, 0, r0);
+    let b = verify_round(key, salt, i, c0, c1, beta, h, 1, r1);
+    let c = verify_round(key, salt, i, c0, c1, other, h_other, 0, s0);
+    let d = verify_round(key, salt, i, c0, c1, other, h_other, 1, s1);
+    Examined {
+        a: a,
+        b: b,
+        c: c,
+        d: d,
+    }
+}
+
+// A package is made of a profile and loaded under the key that make_key wrote.
+pub fn make_and_load(
+    private: &[u8],
+    master: &[u8],
+    salt: &[u8],
+    profile: Profile,
+    store: Store,
+    device: Device,
+    out: &mut [u8],
+) -> Loaded
+    ensures { λ r.
+        ⌜ MakesAndLoads p (now (private .entry)) (now (master .entry)) (now (salt .entry)) profile device store
+        (now (out .entry)) r (now (out .exit)) ⌝ }
+{
+    let mut public = [0u8; KEY];
+    let mut length: usize = 0;
+    let key_answer = make_key(private, &mut public);
+    let make_answer = make_package(private, master, salt, profile, out, &mut length);
+    let loaded = load(store, &public, &out[..length], device);
+    let after = loaded.store;
+    Loaded {
+        key: key_answer,
+        make: make_answer,
+        load: loaded.answer,
+        store: after,
+    }
+}
