@@ -1,4 +1,4 @@
-// The theorems of what C calls at category 1. Another category is this file with the next lines of its own.
+// The theorems of what C calls at category 1. Another category is this file with its own names in the next eight lines.
 use gridprofile::category1::gridprofile_make_key as make_key;
 use gridprofile::category1::gridprofile_sign as sign;
 use gridprofile::category1::gridprofile_verify as verify;
