@@ -6,14 +6,23 @@ use Prim.Native.Nat.{ℕ}
 use native.Mathlib.Omega.{arith}
 use lib.ListN.{length}
 use lib.Seq.{take-all}
+use Rattle.shake.specs.Shake.{shake}
+use Rattle.sampling.specs.declared.draw.Draw.{Draw}
 use Rattle.sampling.specs.Shuffle.{shuffle, shuffles}
 use Rattle.sampling.specs.Scratch.{Shuffled}
 use Rattle.expand.specs.Expanded.{Expanded, ExpandedFrom}
 
-pub from-block : (w m d n : ℕ) {block block′ : List ℕ} {ok : Bool} {scratch : List ℕ} → block ≡ block′ →
-    ExpandedFrom w m d n block ok scratch → ExpandedFrom w m d n block′ ok scratch
-from-block w m d n {ok = ok} {scratch = scratch} e drawn =
-    subst (λ (b : List ℕ). ExpandedFrom w m d n b ok scratch) e drawn
+module _ {ok : Bool} {scratch : List ℕ} where
+  -- the code's draw and block are those of the scheme
+  pub of-draw : {d d′ : Draw} {block block′ : List ℕ} → d ≡ d′ → block ≡ block′ →
+      ExpandedFrom d block ok scratch → ExpandedFrom d′ block′ ok scratch
+  of-draw {d′ = d′} {block = block} same e drawn =
+      subst (λ (b : List ℕ). ExpandedFrom d′ b ok scratch) e (subst (λ (d : Draw). ExpandedFrom d block ok scratch) same drawn)
+
+  -- the block is a hash, of as many bytes as the draw has
+  pub of-hash : {d d′ : Draw} (rate : ℕ) {string string′ : List ℕ} → d ≡ d′ → string ≡ string′ →
+      ExpandedFrom d (shake rate string (d .bytes)) ok scratch → ExpandedFrom d′ (shake rate string′ (d′ .bytes)) ok scratch
+  of-hash rate same e drawn = of-draw same (λ i. shake rate (e i) (same i .bytes)) drawn
 
 -- a shuffle of t positions, which fill what was lent
 pub from-shuffle : (t w : ℕ) {t′ : ℕ} {block block′ : List ℕ} {ok : Bool} {positions : List ℕ} → t′ ≡ t →

@@ -1,2 +1,3 @@
 pub mod Expanded
 pub mod Scratch
+pub mod Numbers

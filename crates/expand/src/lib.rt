@@ -1,8 +1,11 @@
 // Seeds expanded: strings are hashed into a block, and the block is sampled into lent scratch that has eight places
 // to spare.
+pub mod numbers;
+
 use parameters::Params;
+use sampling::draw::Draw;
 ghost use mathlib.Core.Path.{_≡_};
-ghost use Prim.Native.Nat.{_+_, _^_, _<_, _≤_};
+ghost use Prim.Native.Nat.{_+_, _≤_};
 ghost use lib.Dec.{T};
 ghost use lib.ListN.{length};
 ghost use mathlib.Core.List.{_∷_, _++_};
@@ -11,6 +14,7 @@ ghost use Rattle.shake.specs.Fold.{Rate};
 ghost use Rattle.shake.specs.Shake.{shake};
 ghost use Rattle.packing.specs.Packing.{allBelow, pack, size, digits};
 ghost use Rattle.sampling.specs.Sampling.{enough, yield};
+ghost use Rattle.sampling.specs.Scratch.{Room};
 ghost use Rattle.scheme.specs.Strings.{string10, string10-round};
 ghost use Rattle.scheme.specs.Key.{matrix as matrixOf, matrixDrawn, matrixCount, exponentsFrom, exponentsDrawn};
 ghost use Rattle.scheme.specs.Round.{maskExponents, maskValues, maskBlock};
@@ -25,35 +29,26 @@ pub fn round_number(i: usize) -> [u8; 2]
     [(i % 256) as u8, (i / 256 % 256) as u8]
 }
 
-// n fields of width w below m, each plus d.
-fn sampled(w: usize, m: u8, d: u8, n: usize, block: &[u8], out: &mut [u8]) -> bool
-    requires { ⌜ (n + 8 ≤ length (now out)) × (0 < w) × (w ≤ 8) × (2 ^ w + d ≤ 256) ⌝ }
-    ensures { λ r. ⌜ ExpandedFrom w m d n (now (block .entry)) r (now (out .exit)) ⌝ }
+// A draw into `out`; whether the block yields enough.
+fn sampled(d: Draw, block: &[u8], out: &mut [u8]) -> bool
+    requires { ⌜ Room d (now out) ⌝ }
+    ensures { λ r. ⌜ ExpandedFrom d (now (block .entry)) r (now (out .exit)) ⌝ }
 {
-    let got = sampling::draw::sample(out, block, w, m, d, n);
+    let n = d.count;
+    let got = sampling::draw::sample(out, block, d);
     n <= got
 }
 
-// The same from a tag and three parts, hashed into a block of some bytes.
-fn sampled3(
-    rate: usize,
-    tag: u8,
-    a: &[u8],
-    b: &[u8],
-    c: &[u8],
-    bytes: usize,
-    w: usize,
-    m: u8,
-    d: u8,
-    n: usize,
-    out: &mut [u8],
-) -> bool
-    requires { ⌜ Rate rate × (bytes ≤ 384) × (n + 8 ≤ length (now out)) × (0 < w) × (w ≤ 8) × (2 ^ w + d ≤ 256) ⌝ }
-    ensures { λ r. ⌜ ExpandedFrom w m d n (shake rate (tag ∷ now (a .entry) ++ now (b .entry) ++ now (c .entry)) bytes) r (now (out .exit)) ⌝ }
+// The same from a tag and three parts, hashed into a block of as many bytes as the draw has.
+fn sampled3(d: Draw, rate: usize, tag: u8, a: &[u8], b: &[u8], c: &[u8], out: &mut [u8]) -> bool
+    requires { ⌜ Rate rate × (d .bytes ≤ 384) × Room d (now out) ⌝ }
+    ensures { λ r.
+        ⌜ ExpandedFrom d (shake rate (tag ∷ now (a .entry) ++ now (b .entry) ++ now (c .entry)) (d .bytes)) r (now (out .exit)) ⌝ }
 {
+    let bytes = d.bytes;
     let mut block = [0u8; 384];
     hashing::hash3(rate, tag, a, b, c, &mut block[..bytes]);
-    sampled(w, m, d, n, &block[..bytes], out)
+    sampled(d, &block[..bytes], out)
 }
 
 // V of a public seed.
@@ -61,10 +56,8 @@ pub fn matrix(p: Params, public: &[u8], block: &mut [u8], vs: &mut [u8]) -> bool
     requires { ⌜ Scratch p (now block) (now vs) ⌝ }
     ensures { λ r. ⌜ Expanded (matrixDrawn p (now (public .entry))) (matrixCount p) (matrixOf p (now (public .entry))) r (now (vs .exit)) ⌝ }
 {
-    let n = p.n;
-    let k = p.k;
     hashing::hash1(p.rate, 13, public, block);
-    sampled(7, 127, 0, (n - k) * k, block, vs)
+    sampled(numbers::matrix(p), block, vs)
 }
 
 // The key exponents of a secret seed.
@@ -75,7 +68,7 @@ pub fn key_exponents(p: Params, secret: &[u8], es: &mut [u8]) -> bool
     let bytes = p.exponents;
     let mut block = [0u8; 256];
     hashing::hash1(p.rate, 10, secret, &mut block[..bytes]);
-    sampled(3, 7, 0, p.n, &block[..bytes], es)
+    sampled(numbers::exponents(p), &block[..bytes], es)
 }
 
 // e' of round i.
@@ -84,19 +77,7 @@ pub fn mask_exponents(p: Params, seed: &[u8], salt: &[u8], i: usize, es: &mut [u
     ensures { λ r. ⌜ Expanded (exponentsDrawn p (string10-round (now (seed .entry)) (now (salt .entry)) i)) (p .n) (maskExponents p (now (seed .entry)) (now (salt .entry)) i) r (now (es .exit)) ⌝ }
 {
     let number = round_number(i);
-    sampled3(
-        p.rate,
-        10,
-        seed,
-        salt,
-        &number,
-        p.exponents,
-        3,
-        7,
-        0,
-        p.n,
-        es,
-    )
+    sampled3(numbers::exponents(p), p.rate, 10, seed, salt, &number, es)
 }
 
 // u' of round i.
@@ -105,7 +86,7 @@ pub fn mask_values(p: Params, seed: &[u8], salt: &[u8], i: usize, us: &mut [u8])
     ensures { λ r. ⌜ Expanded (enough (p .n) (yield 7 127 0 (maskBlock p (now (seed .entry)) (now (salt .entry)) i))) (p .n) (maskValues p (now (seed .entry)) (now (salt .entry)) i) r (now (us .exit)) ⌝ }
 {
     let number = round_number(i);
-    sampled3(p.rate, 11, seed, salt, &number, p.mask, 7, 127, 0, p.n, us)
+    sampled3(numbers::mask_values(p), p.rate, 11, seed, salt, &number, us)
 }
 
 // The first challenges.
@@ -113,7 +94,7 @@ pub fn first_challenges(p: Params, c: &[u8], salt: &[u8], msg: &[u8], bs: &mut [
     requires { ⌜ Sound p × (p .t + 8 ≤ length (now bs)) ⌝ }
     ensures { λ r. ⌜ Expanded (firstDrawn p (now (c .entry)) (now (salt .entry)) (now (msg .entry))) (p .t) (firstChallenges p (now (c .entry)) (now (salt .entry)) (now (msg .entry))) r (now (bs .exit)) ⌝ }
 {
-    sampled3(p.rate, 7, c, salt, msg, p.first, 7, 126, 1, p.t, bs)
+    sampled3(numbers::first_challenges(p), p.rate, 7, c, salt, msg, bs)
 }
 
 // Values in range, packed where there is room for just them.

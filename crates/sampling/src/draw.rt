@@ -5,7 +5,17 @@ ghost use Prim.Native.Nat.{_+_, _^_, _<_, _≤_};
 ghost use lib.ListN.{length, take, drop};
 ghost use Rattle.packing.specs.Packing.{number, digits};
 ghost use Rattle.sampling.specs.Sampling.{keep, yield};
-ghost use Rattle.sampling.specs.Scratch.{Sampled};
+ghost use Rattle.sampling.specs.Scratch.{Room, Sampled};
+
+// A draw: the fields of `width` bits of a block of `bytes` bytes, of which those below `limit` are kept, each plus
+// `added`, until there are `count`.
+pub struct Draw {
+    pub width: usize,
+    pub limit: u8,
+    pub added: u8,
+    pub count: usize,
+    pub bytes: usize,
+}
 
 // Stores x + d always and counts it where x is below m, so that the compiled code does not branch on a field.
 fn keep_one(scratch: &mut [u8], got: usize, x: u8, m: u8, d: u8) -> usize
@@ -21,109 +31,112 @@ fn keep_one(scratch: &mut [u8], got: usize, x: u8, m: u8, d: u8) -> usize
     got
 }
 
-// Keeps of the n lowest fields of v, each of width w. Each such function returns how many scratch then has.
-fn keep_some(scratch: &mut [u8], got: usize, v: u64, w: usize, n: usize, m: u8, d: u8) -> usize
-    requires { ⌜ (got + n ≤ length (now scratch)) × (w < 64) × (2 ^ w + d ≤ 256) ⌝ }
+// Keeps of the n lowest fields of v. Each such function returns how many scratch then has.
+fn keep_some(scratch: &mut [u8], got: usize, v: u64, n: usize, d: Draw) -> usize
+    requires { ⌜ (got + n ≤ length (now scratch)) × (d .width < 64) × (2 ^ d .width + d .added ≤ 256) ⌝ }
     ensures { λ r.
         ⌜ (r ≤ got + n)
-        × (take r (now (scratch .exit)) ≡ take got (now (scratch .entry)) ++ keep m d (digits w n v)) ⌝ }
+        × (take r (now (scratch .exit)) ≡ take got (now (scratch .entry))
+        ++ keep (d .limit) (d .added) (digits (d .width) n v)) ⌝ }
 {
+    let w = d.width;
     let base = packing::pow2(w);
     let mut left = v;
     let mut kept = got;
     let mut i = 0;
     while i < n {
         let x = (left % base) as u8;
-        kept = keep_one(scratch, kept, x, m, d);
+        kept = keep_one(scratch, kept, x, d.limit, d.added);
         left = left >> w;
         i += 1;
     }
     kept
 }
 
-// Keeps of the n fields of width w that start at byte `at` and lie in x bytes.
+// Keeps of the n fields that start at byte `at` and lie in x bytes.
 fn keep_bytes(
     scratch: &mut [u8],
     got: usize,
     block: &[u8],
     at: usize,
     x: usize,
-    w: usize,
     n: usize,
-    m: u8,
-    d: u8,
+    d: Draw,
 ) -> usize
     requires { ⌜ (got + n ≤ length (now scratch)) × (at + x ≤ length (now block)) × (x ≤ 8)
-        × (w < 64) × (2 ^ w + d ≤ 256) ⌝ }
+        × (d .width < 64) × (2 ^ d .width + d .added ≤ 256) ⌝ }
     ensures { λ r.
         ⌜ (r ≤ got + n)
         × (take r (now (scratch .exit)) ≡ take got (now (scratch .entry))
-        ++ keep m d (digits w n (number 8 (take x (drop at (now (block .entry))))))) ⌝ }
+        ++ keep (d .limit) (d .added) (digits (d .width) n (number 8 (take x (drop at (now (block .entry))))))) ⌝ }
 {
     let v = packing::gather(block, at, 8, x);
-    keep_some(scratch, got, v, w, n, m, d)
+    keep_some(scratch, got, v, n, d)
 }
 
-// A group: w bytes, which are eight fields. The widths in use are named, so that each has a loop with its constants.
-fn keep_group(
-    scratch: &mut [u8],
-    got: usize,
-    block: &[u8],
-    at: usize,
-    w: usize,
-    m: u8,
-    d: u8,
-) -> usize
-    requires { ⌜ (got + 8 ≤ length (now scratch)) × (at + w ≤ length (now block)) × (w ≤ 8)
-        × (2 ^ w + d ≤ 256) ⌝ }
+// The same draw with its width written out, for a caller that knows it as a constant.
+fn of_width(d: Draw, width: usize) -> Draw
+    requires { ⌜ d .width ≡ width ⌝ }
+    ensures { λ r. ⌜ r ≡ d ⌝ }
+{
+    Draw {
+        width: width,
+        limit: d.limit,
+        added: d.added,
+        count: d.count,
+        bytes: d.bytes,
+    }
+}
+
+// A group: `width` bytes, which are eight fields. The widths in use are named, so that each has a loop with its
+// constants.
+fn keep_group(scratch: &mut [u8], got: usize, block: &[u8], at: usize, d: Draw) -> usize
+    requires { ⌜ (got + 8 ≤ length (now scratch)) × (at + d .width ≤ length (now block)) × (d .width ≤ 8)
+        × (2 ^ d .width + d .added ≤ 256) ⌝ }
     ensures { λ r.
         ⌜ (r ≤ got + 8)
         × (take r (now (scratch .exit)) ≡ take got (now (scratch .entry))
-        ++ keep m d (digits w 8 (number 8 (take w (drop at (now (block .entry))))))) ⌝ }
+        ++ keep (d .limit) (d .added) (digits (d .width) 8 (number 8 (take (d .width) (drop at (now (block .entry))))))) ⌝ }
 {
+    let w = d.width;
     if w == 7 {
-        return keep_bytes(scratch, got, block, at, 7, 7, 8, m, d);
+        return keep_bytes(scratch, got, block, at, 7, 8, of_width(d, 7));
     }
     if w == 3 {
-        return keep_bytes(scratch, got, block, at, 3, 3, 8, m, d);
+        return keep_bytes(scratch, got, block, at, 3, 8, of_width(d, 3));
     }
-    keep_bytes(scratch, got, block, at, w, w, 8, m, d)
+    keep_bytes(scratch, got, block, at, w, 8, d)
 }
 
 // Keeps of the whole fields in the bytes from `at` on, which are fewer than a group.
-fn keep_tail(
-    scratch: &mut [u8],
-    got: usize,
-    block: &[u8],
-    at: usize,
-    w: usize,
-    m: u8,
-    d: u8,
-) -> usize
-    requires { ⌜ (got + 8 ≤ length (now scratch)) × (at ≤ length (now block)) × (length (now block) < at + w)
-        × (w ≤ 8) × (2 ^ w + d ≤ 256) ⌝ }
+fn keep_tail(scratch: &mut [u8], got: usize, block: &[u8], at: usize, d: Draw) -> usize
+    requires { ⌜ (got + 8 ≤ length (now scratch)) × (at ≤ length (now block)) × (length (now block) < at + d .width)
+        × (d .width ≤ 8) × (2 ^ d .width + d .added ≤ 256) ⌝ }
     ensures { λ r.
         ⌜ (r ≤ got + 8)
         × (take r (now (scratch .exit)) ≡ take got (now (scratch .entry))
-        ++ yield w m d (drop at (now (block .entry)))) ⌝ }
+        ++ yield (d .width) (d .limit) (d .added) (drop at (now (block .entry)))) ⌝ }
 {
     let x = block.len() - at;
-    keep_bytes(scratch, got, block, at, x, w, 8 * x / w, m, d)
+    let n = 8 * x / d.width;
+    keep_bytes(scratch, got, block, at, x, n, d)
 }
 
-// Draws n fields of width w below m, each plus d. Returns how many scratch has: n or more, at most 7 more, exactly
-// where the block yields enough.
-pub fn sample(scratch: &mut [u8], block: &[u8], w: usize, m: u8, d: u8, n: usize) -> usize
-    requires { ⌜ (n + 8 ≤ length (now scratch)) × (0 < w) × (w ≤ 8) × (2 ^ w + d ≤ 256) ⌝ }
-    ensures { λ got. ⌜ Sampled w m d n (now (block .entry)) got (now (scratch .exit)) ⌝ }
+// Makes a draw. Returns how many scratch has: `count` or more, at most 7 more, exactly where the block yields enough.
+pub fn sample(scratch: &mut [u8], block: &[u8], d: Draw) -> usize
+    requires { ⌜ Room d (now scratch) ⌝ }
+    ensures { λ got.
+        ⌜ Sampled (d .width) (d .limit) (d .added) (d .count) (now (block .entry)) got (now (scratch .exit)) ⌝ }
 {
+    let w = d.width;
+    let n = d.count;
     let mut got = 0;
     let mut at = 0;
     while got < n {
         if block.len() - at < w {
-            return keep_tail(scratch, got, block, at, w, m, d);
+            return keep_tail(scratch, got, block, at, d);
         }
-        got = keep_group(scratch, got, block, at, w, m, d);
+        got = keep_group(scratch, got, block, at, d);
         at += w;
     }
     got

@@ -1,9 +1,11 @@
 // The entries of the draws, for every size: the sizes are tested, the draw is made in scratch, and only a draw that is
 // enough is copied to what was lent.
+use crate::draw::Draw;
 ghost use mathlib.Core.Path.{_≡_};
 ghost use Prim.Native.Nat.{_+_, _^_, _<_, _≤_};
 ghost use lib.ListN.{length, take};
 ghost use Rattle.sampling.specs.Entry.{AnswersSample, AnswersShuffle};
+ghost use Rattle.sampling.specs.Scratch.{Room};
 
 // The front of `source`, as long as `out`.
 fn copy(out: &mut [u8], source: &[u8])
@@ -17,28 +19,21 @@ fn copy(out: &mut [u8], source: &[u8])
     }
 }
 
-// n fields of width w below m, each plus d, from a block of `bytes` bytes. Scratch has room for the rest of a group.
-pub fn sample_into(
-    out: &mut [u8],
-    scratch: &mut [u8],
-    block: &[u8],
-    bytes: usize,
-    w: usize,
-    m: u8,
-    d: u8,
-    n: usize,
-) -> u8
-    requires { ⌜ (n + 8 ≤ length (now scratch)) × (0 < w) × (w ≤ 8) × (2 ^ w + d ≤ 256) ⌝ }
+// A draw, where the block has its bytes and `out` its count.
+pub fn sample_into(out: &mut [u8], scratch: &mut [u8], block: &[u8], d: Draw) -> u8
+    requires { ⌜ Room d (now scratch) ⌝ }
     ensures { λ r.
-        ⌜ AnswersSample w m d n bytes (now (block .entry)) (now (out .entry)) r (now (out .exit)) ⌝ }
+        ⌜ AnswersSample (d .width) (d .limit) (d .added) (d .count) (d .bytes)
+        (now (block .entry)) (now (out .entry)) r (now (out .exit)) ⌝ }
 {
-    if block.len() != bytes {
+    let n = d.count;
+    if block.len() != d.bytes {
         return 1;
     }
     if out.len() != n {
         return 1;
     }
-    let got = crate::draw::sample(scratch, block, w, m, d, n);
+    let got = crate::draw::sample(scratch, block, d);
     if got < n {
         return 2;
     }

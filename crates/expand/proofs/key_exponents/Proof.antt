@@ -4,7 +4,7 @@ use lib.ListN.{replicate}
 use Rattle.scheme.specs.Strings.{bytesFrom, string10}
 use Rattle.scheme.specs.Key.{exponentsFrom, exponentsDrawn}
 use Rattle.expand.proofs.Lent.{Lent, part-length, lent-within, lent-length, lent-hash}
-use Rattle.expand.proofs.Draws.{from-block}
+use Rattle.expand.proofs.Draws.{of-draw}
 use Rattle.expand.proofs.key_exponents.Statement.{statement}
 use Rattle.expand.proofs.key_exponents.Tie as tie
 
@@ -22,14 +22,17 @@ hash1-requires c κs = search needs
 hashed : (c : tie.After-hash1) → Lent (c .before .before .before .before .args .p .exponents) (replicate 256 0) (c .hash1 .last .1 .1 .1 .0)
 hashed c = record { fits = c .before .before .before .before .pre .0 .exponents-fits; kept = c .hash1 .kept .1 .1 .1 .0 }
 
+exponents-requires : tie.Need-exponents-requires
+exponents-requires c κs = search needs
+
 array-share-prefix-block : tie.Need-array-share-prefix-block
-array-share-prefix-block c = lent-within (hashed (c .before))
+array-share-prefix-block c = lent-within (hashed (c .before .before))
 
 slice-aggregate-sampled : tie.Need-slice-aggregate-sampled
-slice-aggregate-sampled c = lent-length (hashed (c .before .before))
+slice-aggregate-sampled c = lent-length (hashed (c .before .before .before))
 
 sampled-requires : tie.Need-sampled-requires
-sampled-requires c κs = search needs
+sampled-requires c κs = rw (c .before .before .exponents .ensures) (search needs)
 
 same-length : tie.Need-same-length
 same-length c = search needs
@@ -37,9 +40,10 @@ same-length c = search needs
 returns : tie.Need-returns
 unfolding exponentsDrawn exponentsFrom string10 bytesFrom
 returns c =
-    let at-hash = c .before .before .before .before .before .before in
-    let p = at-hash .before .before .before .before .args .p in
-    from-block 3 7 0 (p .n) (lent-hash (hashed at-hash) _ _ (at-hash .hash1 .ensures)) (c .before .before .sampled .ensures)
+    let numbers = c .before .before .before .before .before in
+    let at-hash = numbers .before .before in
+    of-draw (numbers .exponents .ensures) (lent-hash (hashed at-hash) _ _ (at-hash .hash1 .ensures))
+    (c .before .before .sampled .ensures)
 
 pub key-exponents-spec : {M : Type 1} → statement M
 key-exponents-spec =
@@ -48,6 +52,7 @@ key-exponents-spec =
     array-borrow-prefix-block
     slice-aggregate-hash1
     hash1-requires
+    exponents-requires
     array-share-prefix-block
     slice-aggregate-sampled
     sampled-requires

@@ -16,7 +16,7 @@ returns c =
     let a = c .before .before .before .before .before .before .args in
     record {
       answer = drawn .ensures .suffices;
-      content = λ enough. drawn .ensures .content (leb-true (a .n) (drawn .result) enough);
+      content = λ enough. drawn .ensures .content (leb-true (a .d .count) (drawn .result) enough);
     }
 
 pub sampled-spec : {M : Type 1} → statement M

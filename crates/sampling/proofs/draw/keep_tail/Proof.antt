@@ -11,16 +11,16 @@ use Rattle.sampling.proofs.draw.keep_tail.Tie as tie
 sub-x : tie.Need-sub-x
 sub-x c = search needs
 
-mul-keep-bytes : tie.Need-mul-keep-bytes
-mul-keep-bytes c = omega arith
+mul-n : tie.Need-mul-n
+mul-n c = omega arith
 
-div-keep-bytes : tie.Need-div-keep-bytes
-div-keep-bytes c = omega arith
+div-n : tie.Need-div-n
+div-n c = omega arith
 
 keep-bytes-requires : tie.Need-keep-bytes-requires
 keep-bytes-requires c κs =
-    let a = c .before .before .before .args in
-    let few = rest-few (a .w) (length (a .block .now) - a .at) (omega arith) in
+    let a = c .before .before .before .before .args in
+    let few = rest-few (a .d .width) (length (a .block .now) - a .at) (omega arith) in
     omega arith
 
 same-length : tie.Need-same-length
@@ -29,10 +29,10 @@ same-length c = search needs
 returns : tie.Need-returns
 returns c =
     let kept = c .before .before .keep-bytes in
-    let a = c .before .before .before .before .before .before .args in
-    let few = rest-few (a .w) (length (a .block .now) - a .at) (omega arith) in (
+    let a = c .before .before .before .before .before .before .before .args in
+    let few = rest-few (a .d .width) (length (a .block .now) - a .at) (omega arith) in (
       omega arith,
-      draws-rest (a .w) (a .m) (a .d) (a .at) (a .block .now) (take (a .got) (a .scratch .now)) (take (kept .result) (kept .last .0))
+      draws-rest (a .d .width) (a .d .limit) (a .d .added) (a .at) (a .block .now) (take (a .got) (a .scratch .now)) (take (kept .result) (kept .last .0))
           (kept .ensures .1),
     )
 
@@ -41,8 +41,8 @@ keep-tail-spec =
     tie.close
     (tie.spec
     sub-x
-    mul-keep-bytes
-    div-keep-bytes
+    mul-n
+    div-n
     keep-bytes-requires
     same-length
     returns)

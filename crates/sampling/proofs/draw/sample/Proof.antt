@@ -12,14 +12,14 @@ use Rattle.sampling.proofs.draw.sample.Statement.{statement}
 use Rattle.sampling.proofs.draw.sample.Tie as tie
 
 abbrev Inv-loop : tie.InvT-loop
-Inv-loop scratch₀ block w m d n got₀ at₀ scratch got at =
+Inv-loop scratch₀ block d w n got₀ at₀ scratch got at =
     (at ≤ length block) ×
-    (got ≤ n + 7) ×
+    (got ≤ d .count + 7) ×
     (length scratch ≡ length scratch₀) ×
-    (take got scratch ++ yield w m d (drop at block) ≡ yield w m d block)
+    (take got scratch ++ yield (d .width) (d .limit) (d .added) (drop at block) ≡ yield (d .width) (d .limit) (d .added) block)
 
 abbrev μ-loop : tie.MeasureT-loop
-μ-loop scratch₀ block w m d n got₀ at₀ scratch got at = length block - at
+μ-loop scratch₀ block d w n got₀ at₀ scratch got at = length block - at
 
 loop-holds : tie.Need-loop-holds Inv-loop μ-loop
 loop-holds c = (omega arith, omega arith, refl, refl)
@@ -39,10 +39,11 @@ returns c =
     let kept = c .before .before .keep-tail in
     let turn = c .before .before .before .before .before .before in
     let a = turn .before .before .before .args in
-    let all : take (kept .result) (kept .last .0) ≡ yield (a .w) (a .m) (a .d) (a .block .now) =
+    let d = a .d in
+    let all : take (kept .result) (kept .last .0) ≡ yield (d .width) (d .limit) (d .added) (a .block .now) =
     rw (kept .ensures .1) (turn .loop .inv .3)
     in
-    sampled-all (a .w) (a .m) (a .d) (a .n) (kept .result) (kept .last .0) (omega arith) all
+    sampled-all (d .width) (d .limit) (d .added) (d .count) (kept .result) (kept .last .0) (omega arith) all
 
 keep-group-requires : tie.Need-keep-group-requires Inv-loop μ-loop
 keep-group-requires c κs = omega arith
@@ -60,6 +61,7 @@ loop-again c =
     let now = turn .loop in
     let known = turn .before in
     let a = known .before .before .args in
+    let d = a .d in
     let block = a .block .now in
     let front = take (now .got) (now .scratch) in
     let next = take (kept .result) (kept .last .0) in
@@ -67,7 +69,7 @@ loop-again c =
       omega arith,
       omega arith,
       omega arith,
-      draws-more (a .w) (a .m) (a .d) (now .at) front next bytes (omega arith) (omega arith) (kept .ensures .1) ∙ now .inv .3,
+      draws-more (d .width) (d .limit) (d .added) (now .at) front next bytes (omega arith) (omega arith) (kept .ensures .1) ∙ now .inv .3,
     )
 
 same-length-2 : tie.Need-same-length-2 Inv-loop μ-loop
@@ -78,8 +80,9 @@ returns-2 : tie.Need-returns-2 Inv-loop μ-loop
 returns-2 c =
     let now = c .before .loop in
     let a = c .before .before .before .before .args in
-    let rest = yield (a .w) (a .m) (a .d) (drop (now .at) (a .block .now)) in
-    sampled-enough (a .w) (a .m) (a .d) (a .n) (now .got) (now .scratch) rest (c .loop-test .left) (omega arith) (now .inv .3)
+    let d = a .d in
+    let rest = yield (d .width) (d .limit) (d .added) (drop (now .at) (a .block .now)) in
+    sampled-enough (d .width) (d .limit) (d .added) (d .count) (now .got) (now .scratch) rest (c .loop-test .left) (omega arith) (now .inv .3)
 
 pub sample-spec : {M : Type 1} → statement M
 sample-spec =

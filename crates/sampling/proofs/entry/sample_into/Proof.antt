@@ -12,17 +12,17 @@ use Rattle.sampling.proofs.entry.sample_into.Tie as tie
 returns : tie.Need-returns
 unfolding sampleChecks
 returns c =
-    let a = c .before .before .before .before .args in
-    refused 0 (rw (ne-eqb (length (a .block .now)) (a .bytes) (c .if1 .taken))) refl
+    let a = c .before .before .before .before .before .args in
+    refused 0 (rw (ne-eqb (length (a .block .now)) (a .d .bytes) (c .if1 .taken))) refl
 
 returns-2 : tie.Need-returns-2
 unfolding sampleChecks
 returns-2 c =
-    let a = c .before .before .before .before .before .args in
+    let a = c .before .before .before .before .before .before .args in
     refused 0
     (rw (
-      eq-eqb (length (a .block .now)) (a .bytes) (c .before .if1 .left),
-      ne-eqb (length (a .out .now)) (a .n) (c .if2 .taken),
+      eq-eqb (length (a .block .now)) (a .d .bytes) (c .before .if1 .left),
+      ne-eqb (length (a .out .now)) (a .d .count) (c .if2 .taken),
     ))
     refl
 
@@ -37,11 +37,11 @@ unfolding sampleChecks
 returns-3 c =
     let drawn = c .before .before .before .sample in
     let sized = c .before .before .before .before .before in
-    let a = sized .before .before .before .before .before .args in
+    let a = sized .before .before .before .before .before .before .args in
     refused 1
     (rw (
-      eq-eqb (length (a .block .now)) (a .bytes) (sized .before .if1 .left),
-      eq-eqb (length (a .out .now)) (a .n) (sized .if2 .left),
+      eq-eqb (length (a .block .now)) (a .d .bytes) (sized .before .if1 .left),
+      eq-eqb (length (a .out .now)) (a .d .count) (sized .if2 .left),
       sampled-few (drawn .ensures) (c .if3 .taken),
     ))
     refl
@@ -62,11 +62,11 @@ returns-4 c =
     let tested = c .before .before .before .before .before in
     let drawn = tested .before .before .before .sample in
     let sized = tested .before .before .before .before .before in
-    let a = sized .before .before .before .before .before .args in
+    let a = sized .before .before .before .before .before .before .args in
     done
     (rw (
-      eq-eqb (length (a .block .now)) (a .bytes) (sized .before .if1 .left),
-      eq-eqb (length (a .out .now)) (a .n) (sized .if2 .left),
+      eq-eqb (length (a .block .now)) (a .d .bytes) (sized .before .if1 .left),
+      eq-eqb (length (a .out .now)) (a .d .count) (sized .if2 .left),
       sampled-many (drawn .ensures) (tested .if3 .left),
     ))
     (sampled-copy (drawn .ensures) (length (a .out .now)) (sized .if2 .left) (tested .if3 .left) (copied .ensures))
