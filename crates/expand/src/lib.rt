@@ -1,5 +1,6 @@
 // Seeds expanded: strings are hashed into a block, and the block is sampled into lent scratch that has eight places
 // to spare.
+pub mod entry;
 pub mod numbers;
 
 use parameters::Params;
