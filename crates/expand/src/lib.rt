@@ -47,7 +47,7 @@ fn sampled3(d: Draw, rate: usize, tag: u8, a: &[u8], b: &[u8], c: &[u8], out: &m
         ⌜ ExpandedFrom d (shake rate (tag ∷ now (a .entry) ++ now (b .entry) ++ now (c .entry)) (d .bytes)) r (now (out .exit)) ⌝ }
 {
     let bytes = d.bytes;
-    let mut block = [0u8; 384];
+    let mut block = [0u8; parameters::BLOCK];
     hashing::hash3(rate, tag, a, b, c, &mut block[..bytes]);
     sampled(d, &block[..bytes], out)
 }
@@ -67,7 +67,7 @@ pub fn key_exponents(p: Params, secret: &[u8], es: &mut [u8]) -> bool
     ensures { λ r. ⌜ Expanded (exponentsDrawn p (string10 (now (secret .entry)))) (p .n) (exponentsFrom p (string10 (now (secret .entry)))) r (now (es .exit)) ⌝ }
 {
     let bytes = p.exponents;
-    let mut block = [0u8; 256];
+    let mut block = [0u8; parameters::BLOCK];
     hashing::hash1(p.rate, 10, secret, &mut block[..bytes]);
     sampled(numbers::exponents(p), &block[..bytes], es)
 }
@@ -129,9 +129,9 @@ pub fn second_challenges(
 {
     let bytes = p.second;
     let size = packing::packed_size(p.t, 7);
-    let mut packed = [0u8; 448];
+    let mut packed = [0u8; parameters::PACKED_CHALLENGES];
     pack_values(bs, &mut packed[..size]);
-    let mut block = [0u8; 1024];
+    let mut block = [0u8; parameters::SECOND_BLOCK];
     hashing::hash5(
         p.rate,
         8,

@@ -1,4 +1,5 @@
 -- `key_exponents`: the part of the block that was lent holds the hash. Assumes nothing.
+use native.Mathlib.Omega.{arith}
 use borrow.Author.Needs.{needs}
 use lib.ListN.{replicate}
 use Rattle.scheme.specs.Strings.{bytesFrom, string10}
@@ -12,15 +13,13 @@ array-borrow-prefix-block : tie.Need-array-borrow-prefix-block
 array-borrow-prefix-block c = search needs
 
 slice-aggregate-hash1 : tie.Need-slice-aggregate-hash1
-slice-aggregate-hash1 c =
-    let start = c .before .before .before in
-    part-length (start .args .p .exponents) (replicate 256 0) (start .pre .0 .exponents-fits)
+slice-aggregate-hash1 c = part-length (c .before .before .before .args .p .exponents) (replicate 384 0) (omega arith)
 
 hash1-requires : tie.Need-hash1-requires
 hash1-requires c κs = search needs
 
-hashed : (c : tie.After-hash1) → Lent (c .before .before .before .before .args .p .exponents) (replicate 256 0) (c .hash1 .last .1 .1 .1 .0)
-hashed c = record { fits = c .before .before .before .before .pre .0 .exponents-fits; kept = c .hash1 .kept .1 .1 .1 .0 }
+hashed : (c : tie.After-hash1) → Lent (c .before .before .before .before .args .p .exponents) (replicate 384 0) (c .hash1 .last .1 .1 .1 .0)
+hashed c = record { fits = omega arith; kept = c .hash1 .kept .1 .1 .1 .0 }
 
 exponents-requires : tie.Need-exponents-requires
 exponents-requires c κs = search needs
