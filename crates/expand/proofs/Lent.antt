@@ -12,14 +12,17 @@ pub record Lent (n : ℕ) (old new : List ℕ) : Type 0 where
   pub fits : n ≤ length old
   pub kept : length new ≡ length (take n old)
 
+pub lent : (n : ℕ) (old new : List ℕ) → n ≤ length old → length new ≡ length (take n old) → Lent n old new
+lent n old new fits kept = record { fits = fits; kept = kept }
+
 -- the length of the part as it is lent
 pub part-length : (n : ℕ) (old : List ℕ) → n ≤ length old → n ≡ length (take n old)
 part-length n old fits = sym (length-take-le n old fits)
 
-module _ {n : ℕ} {old new : List ℕ} (lent : Lent n old new) where
+module _ {n : ℕ} {old new : List ℕ} (part : Lent n old new) where
   -- afterwards the part is still within the array, ..
   pub lent-within : n ≤ length (new ++ drop n old)
-  lent-within = subst (λ (k : ℕ). n ≤ k) (sym (length-front old new n (lent .kept))) (lent .fits)
+  lent-within = subst (λ (k : ℕ). n ≤ k) (sym (length-front old new n (part .kept))) (part .fits)
 
   -- .. has its length, ..
   pub lent-length : n ≡ length (take n (new ++ drop n old))
@@ -27,10 +30,10 @@ module _ {n : ℕ} {old new : List ℕ} (lent : Lent n old new) where
 
   -- .. and is what was written
   pub lent-part : take n (new ++ drop n old) ≡ new
-  lent-part = take-at new (drop n old) n (lent .kept ∙ length-take-le n old (lent .fits))
+  lent-part = take-at new (drop n old) n (part .kept ∙ length-take-le n old (part .fits))
 
   -- what was hashed into the part is what is read from it
   pub lent-hash : (rate : ℕ) (string : List ℕ) → new ≡ shake rate string (length (take n old)) →
       take n (new ++ drop n old) ≡ shake rate string n
   lent-hash rate string made =
-      lent-part ∙ made ∙ ap (λ (k : ℕ). shake rate string k) (length-take-le n old (lent .fits))
+      lent-part ∙ made ∙ ap (λ (k : ℕ). shake rate string k) (length-take-le n old (part .fits))

@@ -59,13 +59,10 @@ module _ (w m d : ℕ) {block : List ℕ} where
         content = λ many. sym (take-take n got scratch many) ∙ ap (take n) e;
       }
 
--- what such a draw says of the block, and what is copied from it
+-- what such a draw says of the block
 module _ {w m d n got : ℕ} {block scratch : List ℕ} (s : Sampled w m d n block got scratch) where
   pub sampled-few : got < n → enough n (yield w m d block) ≡ false
   sampled-few h = sym (s .suffices) ∙ lt-leb n got h
 
   pub sampled-many : n ≤ got → enough n (yield w m d block) ≡ true
   sampled-many h = sym (s .suffices) ∙ le-leb n got h
-
-  pub sampled-copy : {out : List ℕ} (size : ℕ) → size ≡ n → n ≤ got → out ≡ take size scratch → out ≡ sample w m d n block
-  sampled-copy size e h l = l ∙ ap (λ (k : ℕ). take k scratch) e ∙ s .content h

@@ -1,7 +1,6 @@
 pub mod Fields
 pub mod Kept
 pub mod Draws
-pub mod Copied
 pub mod Shuffling
 pub mod Steps
 pub mod Answered

@@ -1,23 +1,10 @@
 // The entries of the draws, for every size: the sizes are tested, the draw is made in scratch, and only a draw that is
 // enough is copied to what was lent.
 use crate::draw::Draw;
-ghost use mathlib.Core.Path.{_≡_};
-ghost use Prim.Native.Nat.{_+_, _^_, _<_, _≤_};
-ghost use lib.ListN.{length, take};
+ghost use Prim.Native.Nat.{_<_, _≤_};
+ghost use lib.ListN.{length};
 ghost use Rattle.sampling.specs.Entry.{AnswersSample, AnswersShuffle};
 ghost use Rattle.sampling.specs.Scratch.{Room};
-
-// The front of `source`, as long as `out`.
-fn copy(out: &mut [u8], source: &[u8])
-    requires { ⌜ length (now out) ≤ length (now source) ⌝ }
-    ensures { λ r. ⌜ now (out .exit) ≡ take (length (now (out .entry))) (now (source .entry)) ⌝ }
-{
-    let mut i = 0;
-    while i < out.len() {
-        out[i] = source[i];
-        i += 1;
-    }
-}
 
 // A draw, where the block has its bytes and `out` its count.
 pub fn sample_into(out: &mut [u8], scratch: &mut [u8], block: &[u8], d: Draw) -> u8
@@ -37,7 +24,7 @@ pub fn sample_into(out: &mut [u8], scratch: &mut [u8], block: &[u8], d: Draw) ->
     if got < n {
         return 2;
     }
-    copy(out, scratch);
+    buffers::copy(out, &scratch[..n]);
     0
 }
 
@@ -55,7 +42,7 @@ pub fn shuffle_into(out: &mut [u8], scratch: &mut [u8], block: &[u8], bytes: usi
         return 1;
     }
     if crate::shuffle::shuffle(scratch, block, w) {
-        copy(out, scratch);
+        buffers::copy(out, scratch);
         return 0;
     }
     2

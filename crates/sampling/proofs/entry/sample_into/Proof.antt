@@ -1,11 +1,13 @@
 -- `entry::sample_into`: each return is the answer of the first test that fails. Assumes nothing.
-use mathlib.Core.Path.{refl}
+use mathlib.Core.Path.{refl, _∙_, sym}
+use native.Mathlib.Omega.{arith}
 use borrow.Author.Needs.{needs}
 use borrow.Author.Tests.{eq-eqb, ne-eqb}
 use lib.ListN.{length}
+use lib.Seq.{length-take-le}
 use Rattle.outcome.proofs.Checks.{done, refused}
 use Rattle.sampling.specs.Sampling.{sampleChecks}
-use Rattle.sampling.proofs.Draws.{sampled-few, sampled-many, sampled-copy}
+use Rattle.sampling.proofs.Draws.{sampled-few, sampled-many}
 use Rattle.sampling.proofs.entry.sample_into.Statement.{statement}
 use Rattle.sampling.proofs.entry.sample_into.Tie as tie
 
@@ -46,8 +48,17 @@ returns-3 c =
     ))
     refl
 
+slice-reshare-prefix-copy : tie.Need-slice-reshare-prefix-copy
+slice-reshare-prefix-copy c = search needs
+
+slice-aggregate-copy : tie.Need-slice-aggregate-copy
+slice-aggregate-copy c = sym (length-take-le _ _ (omega arith))
+
 copy-requires : tie.Need-copy-requires
-copy-requires c κs = search needs
+copy-requires c κs =
+    let tested = c .before .before in
+    let sized = tested .before .before .before .before .before in
+    sized .if2 .left ∙ sym (length-take-le _ _ (omega arith))
 
 same-length-2 : tie.Need-same-length-2
 same-length-2 c = search needs
@@ -69,7 +80,7 @@ returns-4 c =
       eq-eqb (length (a .out .now)) (a .d .count) (sized .if2 .left),
       sampled-many (drawn .ensures) (tested .if3 .left),
     ))
-    (sampled-copy (drawn .ensures) (length (a .out .now)) (sized .if2 .left) (tested .if3 .left) (copied .ensures))
+    (copied .ensures ∙ drawn .ensures .content (tested .if3 .left))
 
 pub sample-into-spec : {M : Type 1} → statement M
 sample-into-spec =
@@ -80,6 +91,8 @@ sample-into-spec =
     sample-requires
     same-length
     returns-3
+    slice-reshare-prefix-copy
+    slice-aggregate-copy
     copy-requires
     same-length-2
     same-length-3

@@ -1,10 +1,8 @@
 -- `entry::shuffle_into`: each return is the answer of the first test that fails. Assumes nothing.
 use mathlib.Core.Path.{refl, _∙_, sym}
-use native.Mathlib.Omega.{arith}
 use borrow.Author.Needs.{needs}
 use borrow.Author.Tests.{eq-eqb, ne-eqb}
 use lib.ListN.{length}
-use lib.Seq.{take-all}
 use Rattle.outcome.proofs.Checks.{done, refused}
 use Rattle.sampling.specs.Shuffle.{shuffleChecks}
 use Rattle.sampling.proofs.entry.shuffle_into.Statement.{statement}
@@ -53,9 +51,7 @@ returns-3 c =
       eq-eqb (length (a .out .now)) (length (a .scratch .now)) (sized .if2 .left),
       sym (drawn .ensures .suffices) ∙ tested .if3 .taken,
     ))
-    (copied .ensures ∙
-    take-all (length (a .out .now)) (drawn .last .0) (omega arith) ∙
-    drawn .ensures .content (tested .if3 .taken))
+    (copied .ensures ∙ drawn .ensures .content (tested .if3 .taken))
 
 same-length-3 : tie.Need-same-length-3
 same-length-3 c = search needs
