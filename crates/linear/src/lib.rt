@@ -68,18 +68,30 @@ pub fn subtract(b: Value, x: &[u8], s: &[u8], out: &mut [u8])
     }
 }
 
-// A row of V times the first places of a vector, up to a multiple of 127.
-pub fn row_sum(row: &[u8], x: &[u8]) -> u32
-    requires { ⌜ (length (now row) ≡ length (now x)) × (length (now x) ≤ 4096) × T (allBelow 127 (now row)) × T (allBelow 127 (now x)) ⌝ }
+// A row of V times the first places of a vector, up to a multiple of 127; both have k places.
+fn row_sum_of(row: &[u8], x: &[u8], k: usize) -> u32
+    requires { ⌜ (length (now row) ≡ k) × (length (now x) ≡ k) × (k ≤ 4096) × T (allBelow 127 (now row)) × T (allBelow 127 (now x)) ⌝ }
     ensures { λ r. ⌜ (r % 127 ≡ dot (now (row .entry)) (now (x .entry)) % 127) × (r ≤ 4096 * 15876) ⌝ }
 {
     let mut sum = 0u32;
     let mut i = 0;
-    while i < x.len() {
+    while i < k {
         sum += (row[i] as u32) * (x[i] as u32);
         i += 1;
     }
     sum
+}
+
+// The same for every length. A length in use is named, so that it has a loop with its constant.
+pub fn row_sum(row: &[u8], x: &[u8]) -> u32
+    requires { ⌜ (length (now row) ≡ length (now x)) × (length (now x) ≤ 4096) × T (allBelow 127 (now row)) × T (allBelow 127 (now x)) ⌝ }
+    ensures { λ r. ⌜ (r % 127 ≡ dot (now (row .entry)) (now (x .entry)) % 127) × (r ≤ 4096 * 15876) ⌝ }
+{
+    let k = x.len();
+    if k == 76 {
+        return row_sum_of(row, x, 76);
+    }
+    row_sum_of(row, x, k)
 }
 
 // x times H transposed.

@@ -1,4 +1,4 @@
--- `row_sum`: the sum so far and the sum of what is left make the whole. Assumes nothing.
+-- `row_sum_of`: the sum so far and the sum of what is left make the whole. Assumes nothing.
 use mathlib.Core.Path.{_≡_, ap}
 use Prim.Native.Nat.{ℕ, _≤_, _-_, _+_, _*_, _%_, _<_}
 use native.Mathlib.Omega.{arith}
@@ -10,8 +10,8 @@ use Rattle.outcome.proofs.Numbers.{product-le}
 use Rattle.packing.proofs.Below.{below, below-at}
 use Rattle.linear.specs.Linear.{dot}
 use Rattle.linear.proofs.Rows.{dot-more, dot-end}
-use Rattle.linear.proofs.row_sum.Statement.{statement}
-use Rattle.linear.proofs.row_sum.Tie as tie
+use Rattle.linear.proofs.row_sum_of.Statement.{statement}
+use Rattle.linear.proofs.row_sum_of.Tie as tie
 
 -- a product of two values
 product-of : (row x : List ℕ) (i : ℕ) → length row ≡ length x → i < length x → T (allBelow 127 row) → T (allBelow 127 x)
@@ -22,11 +22,11 @@ product-of row x i e h tr tx =
     product-le _ _ 126 126 (omega arith) (omega arith)
 
 abbrev Inv-loop : tie.InvT-loop
-Inv-loop row x sum₀ i₀ sum i =
-    (i ≤ length x) × (sum ≤ i * 15876) × (sum + dot (drop i row) (drop i x) ≡ dot row x)
+Inv-loop row x k sum₀ i₀ sum i =
+    (i ≤ k) × (sum ≤ i * 15876) × (sum + dot (drop i row) (drop i x) ≡ dot row x)
 
 abbrev μ-loop : tie.MeasureT-loop
-μ-loop row x sum₀ i₀ sum i = length x - i
+μ-loop row x k sum₀ i₀ sum i = k - i
 
 loop-holds : tie.Need-loop-holds Inv-loop μ-loop
 loop-holds c = omega arith
@@ -47,14 +47,14 @@ mul-sum : tie.Need-mul-sum Inv-loop μ-loop
 mul-sum c =
     let start = c .before .before .before .before in
     let i = c .before .before .before .loop .i in
-    let product = product-of (start .args .row .now) (start .args .x .now) i (start .pre .0) (omega arith) (start .pre .2) (start .pre .3) in
+    let product = product-of (start .args .row .now) (start .args .x .now) i (omega arith) (omega arith) (start .pre .3) (start .pre .4) in
     omega arith
 
 add-sum : tie.Need-add-sum Inv-loop μ-loop
 add-sum c =
     let start = c .before .before .before .before in
     let i = c .before .before .before .loop .i in
-    let product = product-of (start .args .row .now) (start .args .x .now) i (start .pre .0) (omega arith) (start .pre .2) (start .pre .3) in
+    let product = product-of (start .args .row .now) (start .args .x .now) i (omega arith) (omega arith) (start .pre .3) (start .pre .4) in
     omega arith
 
 add-i : tie.Need-add-i Inv-loop μ-loop
@@ -67,7 +67,7 @@ loop-again : tie.Need-loop-again Inv-loop μ-loop
 loop-again c =
     let start = c .before .before .before .before in
     let i = c .before .before .before .loop .i in
-    let product = product-of (start .args .row .now) (start .args .x .now) i (start .pre .0) (omega arith) (start .pre .2) (start .pre .3) in
+    let product = product-of (start .args .row .now) (start .args .x .now) i (omega arith) (omega arith) (start .pre .3) (start .pre .4) in
     let rest = dot-more (start .args .row .now) (start .args .x .now) i (omega arith) (omega arith) in
     omega arith
 
@@ -79,8 +79,8 @@ returns c =
     let whole : c .before .loop .sum ≡ dot (start .args .row .now) (start .args .x .now) = omega arith in
     (ap (λ (n : ℕ). n % 127) whole, omega arith)
 
-pub row-sum-spec : {M : Type 1} → statement M
-row-sum-spec =
+pub row-sum-of-spec : {M : Type 1} → statement M
+row-sum-of-spec =
     tie.close
     (tie.spec
     Inv-loop
