@@ -17,11 +17,13 @@ module _ {ok : Bool} {scratch : List ℕ} where
   pub of-draw : {d d′ : Draw} {block block′ : List ℕ} → d ≡ d′ → block ≡ block′ →
       ExpandedFrom d block ok scratch → ExpandedFrom d′ block′ ok scratch
   of-draw {d′ = d′} {block = block} same e drawn =
-      subst (λ (b : List ℕ). ExpandedFrom d′ b ok scratch) e (subst (λ (d : Draw). ExpandedFrom d block ok scratch) same drawn)
+      let drawn′ = subst (λ (d : Draw). ExpandedFrom d block ok scratch) same drawn in
+      subst (λ (b : List ℕ). ExpandedFrom d′ b ok scratch) e drawn′
 
   -- the block is a hash, of as many bytes as the draw has
   pub of-hash : {d d′ : Draw} (rate : ℕ) {string string′ : List ℕ} → d ≡ d′ → string ≡ string′ →
-      ExpandedFrom d (shake rate string (d .bytes)) ok scratch → ExpandedFrom d′ (shake rate string′ (d′ .bytes)) ok scratch
+      ExpandedFrom d (shake rate string (d .bytes)) ok scratch →
+      ExpandedFrom d′ (shake rate string′ (d′ .bytes)) ok scratch
   of-hash rate same e drawn = of-draw same (λ i. shake rate (e i) (same i .bytes)) drawn
 
 -- a shuffle of t positions, which fill what was lent
@@ -29,7 +31,8 @@ pub from-shuffle : (t w : ℕ) {t′ : ℕ} {block block′ : List ℕ} {ok : Bo
     length positions ≡ t → block ≡ block′ → Shuffled t′ w block ok positions →
     Expanded (shuffles t block′) t (shuffle t w block′) ok positions
 from-shuffle t w {t′} {block} {block′} {ok} {positions} sized long e shuffled =
-    let same = subst (λ (b : List ℕ). Shuffled t w b ok positions) e (subst (λ (n : ℕ). Shuffled n w block ok positions) sized shuffled) in
+    let at-t = subst (λ (n : ℕ). Shuffled n w block ok positions) sized shuffled in
+    let same = subst (λ (b : List ℕ). Shuffled t w b ok positions) e at-t in
     record {
       answer = same .suffices;
       content = λ enough. take-all t positions (omega arith) ∙ same .content enough;

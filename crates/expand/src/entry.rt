@@ -7,7 +7,8 @@ ghost use Prim.Native.Nat.{_+_, _≤_};
 ghost use lib.ListN.{length};
 ghost use Rattle.parameters.specs.Sound.{Sound};
 ghost use Rattle.scheme.specs.Key.{matrixCount};
-ghost use Rattle.scheme.specs.Entries.{SamplesMatrix, SamplesExponents, SamplesMaskValues, SamplesFirstChallenges, SamplesSecondChallenge};
+ghost use Rattle.scheme.specs.Entries.{SamplesMatrix, SamplesExponents, SamplesMaskValues};
+ghost use Rattle.scheme.specs.Entries.{SamplesFirstChallenges, SamplesSecondChallenge};
 
 // V, row by row.
 pub fn sample_matrix(p: Params, block: &[u8], scratch: &mut [u8], out: &mut [u8]) -> u8

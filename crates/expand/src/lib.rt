@@ -44,7 +44,8 @@ fn sampled(d: Draw, block: &[u8], out: &mut [u8]) -> bool
 fn sampled3(d: Draw, rate: usize, tag: u8, a: &[u8], b: &[u8], c: &[u8], out: &mut [u8]) -> bool
     requires { ⌜ Rate rate × (d .bytes ≤ 384) × Room d (now out) ⌝ }
     ensures { λ r.
-        ⌜ ExpandedFrom d (shake rate (tag ∷ now (a .entry) ++ now (b .entry) ++ now (c .entry)) (d .bytes)) r (now (out .exit)) ⌝ }
+        ⌜ ExpandedFrom d (shake rate (tag ∷ now (a .entry) ++ now (b .entry) ++ now (c .entry)) (d .bytes))
+        r (now (out .exit)) ⌝ }
 {
     let bytes = d.bytes;
     let mut block = [0u8; parameters::BLOCK];
@@ -55,7 +56,9 @@ fn sampled3(d: Draw, rate: usize, tag: u8, a: &[u8], b: &[u8], c: &[u8], out: &m
 // V of a public seed.
 pub fn matrix(p: Params, public: &[u8], block: &mut [u8], vs: &mut [u8]) -> bool
     requires { ⌜ Scratch p (now block) (now vs) ⌝ }
-    ensures { λ r. ⌜ Expanded (matrixDrawn p (now (public .entry))) (matrixCount p) (matrixOf p (now (public .entry))) r (now (vs .exit)) ⌝ }
+    ensures { λ r.
+        ⌜ Expanded (matrixDrawn p (now (public .entry))) (matrixCount p) (matrixOf p (now (public .entry))) r
+        (now (vs .exit)) ⌝ }
 {
     hashing::hash1(p.rate, 13, public, block);
     sampled(numbers::matrix(p), block, vs)
@@ -64,7 +67,9 @@ pub fn matrix(p: Params, public: &[u8], block: &mut [u8], vs: &mut [u8]) -> bool
 // The key exponents of a secret seed.
 pub fn key_exponents(p: Params, secret: &[u8], es: &mut [u8]) -> bool
     requires { ⌜ Sound p × (p .n + 8 ≤ length (now es)) ⌝ }
-    ensures { λ r. ⌜ Expanded (exponentsDrawn p (string10 (now (secret .entry)))) (p .n) (exponentsFrom p (string10 (now (secret .entry)))) r (now (es .exit)) ⌝ }
+    ensures { λ r.
+        ⌜ Expanded (exponentsDrawn p (string10 (now (secret .entry)))) (p .n)
+        (exponentsFrom p (string10 (now (secret .entry)))) r (now (es .exit)) ⌝ }
 {
     let bytes = p.exponents;
     let mut block = [0u8; parameters::BLOCK];
@@ -75,7 +80,9 @@ pub fn key_exponents(p: Params, secret: &[u8], es: &mut [u8]) -> bool
 // e' of round i.
 pub fn mask_exponents(p: Params, seed: &[u8], salt: &[u8], i: usize, es: &mut [u8]) -> bool
     requires { ⌜ Sound p × (p .n + 8 ≤ length (now es)) ⌝ }
-    ensures { λ r. ⌜ Expanded (exponentsDrawn p (string10-round (now (seed .entry)) (now (salt .entry)) i)) (p .n) (maskExponents p (now (seed .entry)) (now (salt .entry)) i) r (now (es .exit)) ⌝ }
+    ensures { λ r.
+        ⌜ Expanded (exponentsDrawn p (string10-round (now (seed .entry)) (now (salt .entry)) i)) (p .n)
+        (maskExponents p (now (seed .entry)) (now (salt .entry)) i) r (now (es .exit)) ⌝ }
 {
     let number = round_number(i);
     sampled3(numbers::exponents(p), p.rate, 10, seed, salt, &number, es)
@@ -84,7 +91,9 @@ pub fn mask_exponents(p: Params, seed: &[u8], salt: &[u8], i: usize, es: &mut [u
 // u' of round i.
 pub fn mask_values(p: Params, seed: &[u8], salt: &[u8], i: usize, us: &mut [u8]) -> bool
     requires { ⌜ Sound p × (p .n + 8 ≤ length (now us)) ⌝ }
-    ensures { λ r. ⌜ Expanded (enough (p .n) (yield 7 127 0 (maskBlock p (now (seed .entry)) (now (salt .entry)) i))) (p .n) (maskValues p (now (seed .entry)) (now (salt .entry)) i) r (now (us .exit)) ⌝ }
+    ensures { λ r.
+        ⌜ Expanded (enough (p .n) (yield 7 127 0 (maskBlock p (now (seed .entry)) (now (salt .entry)) i)))
+        (p .n) (maskValues p (now (seed .entry)) (now (salt .entry)) i) r (now (us .exit)) ⌝ }
 {
     let number = round_number(i);
     sampled3(numbers::mask_values(p), p.rate, 11, seed, salt, &number, us)
@@ -93,7 +102,9 @@ pub fn mask_values(p: Params, seed: &[u8], salt: &[u8], i: usize, us: &mut [u8])
 // The first challenges.
 pub fn first_challenges(p: Params, c: &[u8], salt: &[u8], msg: &[u8], bs: &mut [u8]) -> bool
     requires { ⌜ Sound p × (p .t + 8 ≤ length (now bs)) ⌝ }
-    ensures { λ r. ⌜ Expanded (firstDrawn p (now (c .entry)) (now (salt .entry)) (now (msg .entry))) (p .t) (firstChallenges p (now (c .entry)) (now (salt .entry)) (now (msg .entry))) r (now (bs .exit)) ⌝ }
+    ensures { λ r.
+        ⌜ Expanded (firstDrawn p (now (c .entry)) (now (salt .entry)) (now (msg .entry))) (p .t)
+        (firstChallenges p (now (c .entry)) (now (salt .entry)) (now (msg .entry))) r (now (bs .exit)) ⌝ }
 {
     sampled3(numbers::first_challenges(p), p.rate, 7, c, salt, msg, bs)
 }
@@ -125,7 +136,12 @@ pub fn second_challenges(
     out: &mut [u8],
 ) -> bool
     requires { ⌜ Sound p × (length (now bs) ≡ p .t) × T (allBelow 127 (now bs)) × (length (now out) ≡ p .t) ⌝ }
-    ensures { λ r. ⌜ Expanded (secondDrawn p (now (c .entry)) (now (bs .entry)) (now (h .entry)) (now (salt .entry)) (now (msg .entry))) (p .t) (secondChallenges p (now (c .entry)) (now (bs .entry)) (now (h .entry)) (now (salt .entry)) (now (msg .entry))) r (now (out .exit)) ⌝ }
+    ensures { λ r.
+        ⌜ Expanded
+        (secondDrawn p (now (c .entry)) (now (bs .entry)) (now (h .entry)) (now (salt .entry)) (now (msg .entry)))
+        (p .t)
+        (secondChallenges p (now (c .entry)) (now (bs .entry)) (now (h .entry)) (now (salt .entry)) (now (msg .entry)))
+        r (now (out .exit)) ⌝ }
 {
     let bytes = p.second;
     let size = packing::packed_size(p.t, 7);

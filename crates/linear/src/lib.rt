@@ -6,7 +6,8 @@ ghost use Prim.Native.Nat.{_+_, _-_, _*_, _%_, _<_, _≤_};
 ghost use lib.Dec.{T};
 ghost use lib.ListN.{length};
 ghost use Rattle.packing.specs.Packing.{allBelow};
-ghost use Rattle.linear.specs.Linear.{powers as powersOf, scaled, response, transformation, lessTimes, dot, syndrome as syndromeOf};
+ghost use Rattle.linear.specs.Linear.{powers as powersOf, scaled, response, transformation, lessTimes};
+ghost use Rattle.linear.specs.Linear.{dot, syndrome as syndromeOf};
 
 // The powers of exponents.
 pub fn powers(es: &[u8], out: &mut [u8])
@@ -22,7 +23,8 @@ pub fn powers(es: &[u8], out: &mut [u8])
 
 // 2^a times x.
 pub fn scale(a: &[u8], x: &[u8], out: &mut [u8])
-    requires { ⌜ (length (now out) ≡ length (now a)) × (length (now x) ≡ length (now a)) × T (allBelow 7 (now a)) × T (allBelow 127 (now x)) ⌝ }
+    requires { ⌜ (length (now out) ≡ length (now a)) × (length (now x) ≡ length (now a)) × T (allBelow 7 (now a))
+        × T (allBelow 127 (now x)) ⌝ }
     ensures { λ r. ⌜ now (out .exit) ≡ scaled (now (a .entry)) (now (x .entry)) ⌝ }
 {
     let mut i = 0;
@@ -34,7 +36,8 @@ pub fn scale(a: &[u8], x: &[u8], out: &mut [u8])
 
 // u + b · 2^e.
 pub fn respond(b: Value, u: &[u8], e: &[u8], out: &mut [u8])
-    requires { ⌜ (b .0 < 127) × (length (now out) ≡ length (now u)) × (length (now e) ≡ length (now u)) × T (allBelow 127 (now u)) × T (allBelow 7 (now e)) ⌝ }
+    requires { ⌜ (b .0 < 127) × (length (now out) ≡ length (now u)) × (length (now e) ≡ length (now u))
+        × T (allBelow 127 (now u)) × T (allBelow 7 (now e)) ⌝ }
     ensures { λ r. ⌜ now (out .exit) ≡ response (b .0) (now (u .entry)) (now (e .entry)) ⌝ }
 {
     let mut i = 0;
@@ -46,7 +49,8 @@ pub fn respond(b: Value, u: &[u8], e: &[u8], out: &mut [u8])
 
 // The key exponents minus the mask exponents.
 pub fn transform(a: &[u8], e: &[u8], out: &mut [u8])
-    requires { ⌜ (length (now out) ≡ length (now a)) × (length (now e) ≡ length (now a)) × T (allBelow 7 (now a)) × T (allBelow 7 (now e)) ⌝ }
+    requires { ⌜ (length (now out) ≡ length (now a)) × (length (now e) ≡ length (now a)) × T (allBelow 7 (now a))
+        × T (allBelow 7 (now e)) ⌝ }
     ensures { λ r. ⌜ now (out .exit) ≡ transformation (now (a .entry)) (now (e .entry)) ⌝ }
 {
     let mut i = 0;
@@ -58,7 +62,8 @@ pub fn transform(a: &[u8], e: &[u8], out: &mut [u8])
 
 // x − b · s.
 pub fn subtract(b: Value, x: &[u8], s: &[u8], out: &mut [u8])
-    requires { ⌜ (b .0 < 127) × (length (now out) ≡ length (now x)) × (length (now s) ≡ length (now x)) × T (allBelow 127 (now x)) × T (allBelow 127 (now s)) ⌝ }
+    requires { ⌜ (b .0 < 127) × (length (now out) ≡ length (now x)) × (length (now s) ≡ length (now x))
+        × T (allBelow 127 (now x)) × T (allBelow 127 (now s)) ⌝ }
     ensures { λ r. ⌜ now (out .exit) ≡ lessTimes (b .0) (now (x .entry)) (now (s .entry)) ⌝ }
 {
     let mut i = 0;
@@ -70,7 +75,8 @@ pub fn subtract(b: Value, x: &[u8], s: &[u8], out: &mut [u8])
 
 // A row of V times the first places of a vector, up to a multiple of 127; both have k places.
 fn row_sum_of(row: &[u8], x: &[u8], k: usize) -> u32
-    requires { ⌜ (length (now row) ≡ k) × (length (now x) ≡ k) × (k ≤ 4096) × T (allBelow 127 (now row)) × T (allBelow 127 (now x)) ⌝ }
+    requires { ⌜ (length (now row) ≡ k) × (length (now x) ≡ k) × (k ≤ 4096) × T (allBelow 127 (now row))
+        × T (allBelow 127 (now x)) ⌝ }
     ensures { λ r. ⌜ (r % 127 ≡ dot (now (row .entry)) (now (x .entry)) % 127) × (r ≤ 4096 * 15876) ⌝ }
 {
     let mut sum = 0u32;
@@ -84,7 +90,8 @@ fn row_sum_of(row: &[u8], x: &[u8], k: usize) -> u32
 
 // The same for every length. A length in use is named, so that it has a loop with its constant.
 pub fn row_sum(row: &[u8], x: &[u8]) -> u32
-    requires { ⌜ (length (now row) ≡ length (now x)) × (length (now x) ≤ 4096) × T (allBelow 127 (now row)) × T (allBelow 127 (now x)) ⌝ }
+    requires { ⌜ (length (now row) ≡ length (now x)) × (length (now x) ≤ 4096) × T (allBelow 127 (now row))
+        × T (allBelow 127 (now x)) ⌝ }
     ensures { λ r. ⌜ (r % 127 ≡ dot (now (row .entry)) (now (x .entry)) % 127) × (r ≤ 4096 * 15876) ⌝ }
 {
     let k = x.len();
@@ -96,7 +103,8 @@ pub fn row_sum(row: &[u8], x: &[u8]) -> u32
 
 // x times H transposed.
 pub fn syndrome(k: usize, vs: &[u8], x: &[u8], out: &mut [u8])
-    requires { ⌜ (length (now x) ≡ k + length (now out)) × (length (now vs) ≡ k * length (now out)) × (length (now x) ≤ 4096) × T (allBelow 127 (now vs)) × T (allBelow 127 (now x)) ⌝ }
+    requires { ⌜ (length (now x) ≡ k + length (now out)) × (length (now vs) ≡ k * length (now out))
+        × (length (now x) ≤ 4096) × T (allBelow 127 (now vs)) × T (allBelow 127 (now x)) ⌝ }
     ensures { λ r. ⌜ now (out .exit) ≡ syndromeOf k (now (vs .entry)) (now (x .entry)) ⌝ }
 {
     let covered = &x[..k];

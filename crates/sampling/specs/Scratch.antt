@@ -16,7 +16,8 @@ abbrev pub Room : Draw → List ℕ → Type 0
 Room d scratch =
     (d .count + 8 ≤ length scratch) × (0 < d .width) × (d .width ≤ 8) × (2 ^ d .width + d .added ≤ 256)
 
--- A draw of n into scratch got some: n or more exactly where the block yields enough, and then the first n are the draw.
+-- A draw of n into scratch got some: n or more exactly where the block yields enough, and then the first n are the
+-- draw.
 pub record Sampled (w m d n : ℕ) (block : List ℕ) (got : ℕ) (scratch : List ℕ) : Type 0 where
   pub suffices : leb n got ≡ enough n (yield w m d block)
   pub content : n ≤ got → take n scratch ≡ sample w m d n block

@@ -96,7 +96,8 @@ fn keep_group(scratch: &mut [u8], got: usize, block: &[u8], at: usize, d: Draw) 
     ensures { λ r.
         ⌜ (r ≤ got + 8)
         × (take r (now (scratch .exit)) ≡ take got (now (scratch .entry))
-        ++ keep (d .limit) (d .added) (digits (d .width) 8 (number 8 (take (d .width) (drop at (now (block .entry))))))) ⌝ }
+        ++ keep (d .limit) (d .added)
+        (digits (d .width) 8 (number 8 (take (d .width) (drop at (now (block .entry))))))) ⌝ }
 {
     let w = d.width;
     if w == 7 {

@@ -18,7 +18,8 @@ slice-aggregate-hash1 c = part-length (c .before .before .before .args .p .expon
 hash1-requires : tie.Need-hash1-requires
 hash1-requires c κs = search needs
 
-hashed : (c : tie.After-hash1) → Lent (c .before .before .before .before .args .p .exponents) (replicate 384 0) (c .hash1 .last .1 .1 .1 .0)
+hashed : (c : tie.After-hash1) →
+    Lent (c .before .before .before .before .args .p .exponents) (replicate 384 0) (c .hash1 .last .1 .1 .1 .0)
 hashed c = record { fits = omega arith; kept = c .hash1 .kept .1 .1 .1 .0 }
 
 exponents-requires : tie.Need-exponents-requires

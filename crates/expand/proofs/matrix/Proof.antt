@@ -31,7 +31,8 @@ returns c =
     let hashed = numbers .before .before .before in
     let start = hashed .before .before .before .before .before in
     let a = start .args in
-    of-draw (numbers .matrix .ensures) (hashed .hash1 .ensures ∙ ap (shake (a .p .rate) (13 ∷ a .public .now)) (start .pre .1))
+    of-draw (numbers .matrix .ensures)
+    (hashed .hash1 .ensures ∙ ap (shake (a .p .rate) (13 ∷ a .public .now)) (start .pre .1))
     (c .before .before .sampled .ensures)
 
 pub matrix-spec : {M : Type 1} → statement M

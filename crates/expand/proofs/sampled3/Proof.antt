@@ -18,8 +18,14 @@ slice-aggregate-hash3 c =
 hash3-requires : tie.Need-hash3-requires
 hash3-requires c κs = search needs
 
-hashed : (c : tie.After-hash3) → Lent (c .before .before .before .before .before .before .args .d .bytes) (replicate 384 0) (c .hash3 .last .1 .1 .1 .1 .1 .0)
-hashed c = record { fits = c .before .before .before .before .before .before .pre .1; kept = c .hash3 .kept .1 .1 .1 .1 .1 .0 }
+hashed : (c : tie.After-hash3) →
+    Lent
+    (c .before .before .before .before .before .before .args .d .bytes)
+    (replicate 384 0)
+    (c .hash3 .last .1 .1 .1 .1 .1 .0)
+hashed c =
+    let start = c .before .before .before .before .before .before in
+    record { fits = start .pre .1; kept = c .hash3 .kept .1 .1 .1 .1 .1 .0 }
 
 array-share-prefix-block : tie.Need-array-share-prefix-block
 array-share-prefix-block c = lent-within (hashed (c .before))
@@ -37,7 +43,8 @@ returns : tie.Need-returns
 returns c =
     let at-hash = c .before .before .before .before .before .before in
     let d = at-hash .before .before .before .before .before .before .args .d in
-    of-draw {d = d} refl (lent-hash (hashed at-hash) _ _ (at-hash .hash3 .ensures)) (c .before .before .sampled .ensures)
+    of-draw {d = d} refl (lent-hash (hashed at-hash) _ _ (at-hash .hash3 .ensures))
+    (c .before .before .sampled .ensures)
 
 pub sampled3-spec : {M : Type 1} → statement M
 sampled3-spec =

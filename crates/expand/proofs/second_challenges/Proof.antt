@@ -19,7 +19,9 @@ packed-size-requires c κs = search needs
 
 -- the packed challenges fit their array
 packed-fits : (c : tie.After-packed-size) → c .packed-size .result ≤ 448
-packed-fits c = omega (arith, c .packed-size .ensures, c .before .before .before .before .before .before .before .pre .0 .t-fits)
+packed-fits c =
+    let start = c .before .before .before .before .before .before .before in
+    omega (arith, c .packed-size .ensures, start .pre .0 .t-fits)
 
 array-borrow-prefix-packed : tie.Need-array-borrow-prefix-packed
 array-borrow-prefix-packed c = packed-fits c
@@ -37,7 +39,8 @@ pack-values-requires c κs =
           ∙ ap (λ (n : ℕ). size 7 n) (sym (start .pre .1)),
     )
 
-packed : (c : tie.After-pack-values) → Lent (c .before .before .packed-size .result) (replicate 448 0) (c .pack-values .last .1 .0)
+packed : (c : tie.After-pack-values) →
+    Lent (c .before .before .packed-size .result) (replicate 448 0) (c .pack-values .last .1 .0)
 packed c = record { fits = packed-fits (c .before .before); kept = c .pack-values .kept .1 .0 }
 
 array-share-prefix-packed : tie.Need-array-share-prefix-packed
@@ -57,8 +60,14 @@ slice-aggregate-hash5-2 c =
 hash5-requires : tie.Need-hash5-requires
 hash5-requires c κs = search needs
 
-hashed : (c : tie.After-hash5) → Lent (c .before .before .before .before .before .before .before .before .before .before .before .before .before .args .p .second) (replicate 1024 0) (c .hash5 .last .1 .1 .1 .1 .1 .1 .1 .0)
-hashed c = record { fits = c .before .before .before .before .before .before .before .before .before .before .before .before .before .pre .0 .second-fits; kept = c .hash5 .kept .1 .1 .1 .1 .1 .1 .1 .0 }
+hashed : (c : tie.After-hash5) →
+    Lent
+    (c .before .before .before .before .before .before .before .before .before .before .before .before .before .args .p .second)
+    (replicate 1024 0)
+    (c .hash5 .last .1 .1 .1 .1 .1 .1 .1 .0)
+hashed c =
+    let start = c .before .before .before .before .before .before .before .before .before .before .before .before .before in
+    record { fits = start .pre .0 .second-fits; kept = c .hash5 .kept .1 .1 .1 .1 .1 .1 .1 .0 }
 
 array-share-prefix-block : tie.Need-array-share-prefix-block
 array-share-prefix-block c = lent-within (hashed (c .before .before))
@@ -78,11 +87,12 @@ returns c =
     let shuffled = c .before .before .shuffle in
     let at-hash = c .before .before .before .before .before .before in
     let at-pack = at-hash .before .before .before .before in
-    let start = at-hash .before .before .before .before .before .before .before .before .before .before .before .before .before in
+    let start = at-pack .before .before .before .before .before .before .before .before .before in
     let a = start .args in
     from-shuffle (a .p .t) (a .p .w) (start .pre .3) (shuffled .kept .0 ∙ start .pre .3)
     (lent-hash (hashed at-hash) _ _ (at-hash .hash5 .ensures)
-    ∙ ap (λ (b : List ℕ). shake (a .p .rate) (8 ∷ a .c .now ++ b ++ a .h .now ++ a .salt .now ++ a .msg .now) (a .p .second))
+    ∙ ap
+    (λ (b : List ℕ). shake (a .p .rate) (8 ∷ a .c .now ++ b ++ a .h .now ++ a .salt .now ++ a .msg .now) (a .p .second))
     (lent-part (packed at-pack) ∙ at-pack .pack-values .ensures))
     (shuffled .ensures)
 

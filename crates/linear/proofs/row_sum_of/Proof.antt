@@ -47,14 +47,14 @@ mul-sum : tie.Need-mul-sum Inv-loop μ-loop
 mul-sum c =
     let start = c .before .before .before .before in
     let i = c .before .before .before .loop .i in
-    let product = product-of (start .args .row .now) (start .args .x .now) i (omega arith) (omega arith) (start .pre .3) (start .pre .4) in
+    let product = product-of _ (start .args .x .now) i (omega arith) (omega arith) (start .pre .3) (start .pre .4) in
     omega arith
 
 add-sum : tie.Need-add-sum Inv-loop μ-loop
 add-sum c =
     let start = c .before .before .before .before in
     let i = c .before .before .before .loop .i in
-    let product = product-of (start .args .row .now) (start .args .x .now) i (omega arith) (omega arith) (start .pre .3) (start .pre .4) in
+    let product = product-of _ (start .args .x .now) i (omega arith) (omega arith) (start .pre .3) (start .pre .4) in
     omega arith
 
 add-i : tie.Need-add-i Inv-loop μ-loop
@@ -67,7 +67,7 @@ loop-again : tie.Need-loop-again Inv-loop μ-loop
 loop-again c =
     let start = c .before .before .before .before in
     let i = c .before .before .before .loop .i in
-    let product = product-of (start .args .row .now) (start .args .x .now) i (omega arith) (omega arith) (start .pre .3) (start .pre .4) in
+    let product = product-of _ (start .args .x .now) i (omega arith) (omega arith) (start .pre .3) (start .pre .4) in
     let rest = dot-more (start .args .row .now) (start .args .x .now) i (omega arith) (omega arith) in
     omega arith
 

@@ -12,10 +12,6 @@ use Rattle.linear.specs.Linear.{syndrome}
 use Rattle.linear.proofs.Rows.{rows, rows-none, rows-store, rows-end, row-within, row-part}
 use Rattle.linear.proofs.syndrome.Statement.{statement}
 use Rattle.linear.proofs.syndrome.Tie as tie
-use Rattle.linear.proofs.syndrome.Reads as reads
-use Rattle.linear.proofs.syndrome.Lts as lts
-use Rattle.field.proofs.reduce.Reads as reduce-reads
-use Rattle.linear.proofs.row_sum.Reads as row-sum-reads
 
 abbrev Inv-loop : tie.InvT-loop
 Inv-loop k vs x out₀ covered i₀ at₀ out i at =
@@ -54,12 +50,15 @@ part-row-sum-end c =
 row-sum-requires : tie.Need-row-sum-requires Inv-loop μ-loop
 row-sum-requires c κs =
     let start = c .before .before .before .before .before .before .before in
-    let i = c .before .before .loop .i in
-    let part = row-part (start .args .k) (start .args .vs .now) (length (start .args .out .now)) i (c .before .before .loop .at) (start .pre .1) (omega arith) (c .before .before .loop .inv .1) in (
+    let now = c .before .before .loop in
+    let i = now .i in
+    let k = start .args .k in
+    let rows = length (start .args .out .now) in
+    let part = row-part k (start .args .vs .now) rows i (now .at) (start .pre .1) (omega arith) (now .inv .1) in (
       part .1 ∙ sym (length-take-le _ _ (omega arith)),
-      rw (length-take-le (start .args .k) (start .args .x .now) (omega arith)) (omega arith),
-      rw (part .0) (kept-below 127 _ (below-take (start .args .k) (below-drop (start .args .k * i) (below 127 _ (start .pre .3))))),
-      kept-below 127 _ (below-take (start .args .k) (below 127 _ (start .pre .4))),
+      rw (length-take-le k (start .args .x .now) (omega arith)) (omega arith),
+      rw (part .0) (kept-below 127 _ (below-take k (below-drop (k * i) (below 127 _ (start .pre .3))))),
+      kept-below 127 _ (below-take k (below 127 _ (start .pre .4))),
     )
 
 add-reduce : tie.Need-add-reduce Inv-loop μ-loop
@@ -69,10 +68,16 @@ shared-slice-read-reduce : tie.Need-shared-slice-read-reduce Inv-loop μ-loop
 shared-slice-read-reduce c = omega arith
 
 cast-reduce : tie.Need-cast-reduce Inv-loop μ-loop
-cast-reduce c = omega (arith, c .shared-slice-known3 .given (c .before .before .before .before .before .before .before .before .before .args .k + c .before .before .before .before .loop .i))
+cast-reduce c =
+    let turn = c .before .before .before .before in
+    let start = turn .before .before .before .before .before in
+    omega (arith, c .shared-slice-known3 .given (start .args .k + turn .loop .i))
 
 add-reduce-2 : tie.Need-add-reduce-2 Inv-loop μ-loop
-add-reduce-2 c = omega (arith, c .shared-slice-known3 .given (c .before .before .before .before .before .before .before .before .before .args .k + c .before .before .before .before .loop .i))
+add-reduce-2 c =
+    let turn = c .before .before .before .before in
+    let start = turn .before .before .before .before .before in
+    omega (arith, c .shared-slice-known3 .given (start .args .k + turn .loop .i))
 
 reduce-requires : tie.Need-reduce-requires Inv-loop μ-loop
 reduce-requires c κs = tt
@@ -88,21 +93,28 @@ loop-less c = omega arith
 
 loop-again : tie.Need-loop-again Inv-loop μ-loop
 loop-again c =
-    let start = c .before .before .before .before .before .before .before .before .before .before in
-    let now = c .before .before .before .before .before .loop in
-    let part = row-part (start .args .k) (start .args .vs .now) (length (start .args .out .now)) (now .i) (now .at) (start .pre .1) (omega arith) (now .inv .1) in (
+    let turn = c .before .before .before .before .before in
+    let now = turn .loop in
+    let start = turn .before .before .before .before .before in
+    let a = start .args in
+    let summed = c .before .before .row-sum in
+    let rows = length (a .out .now) in
+    let part = row-part (a .k) (a .vs .now) rows (now .i) (now .at) (start .pre .1) (omega arith) (now .inv .1) in (
       omega arith,
       rw (add-one, mul-suc, now .inv .1),
       length-set (now .out) (now .i) (c .reduce .result .0) ∙ now .inv .2,
-      rows-store _ _ _ _ (start .pre .0) (now .out) (now .i) _ (c .before .before .row-sum .result) (now .inv .3) (omega arith)
-          (c .before .before .row-sum .ensures .0 ∙ rw (part .0)) (c .reduce .ensures),
+      rows-store _ _ _ _ (start .pre .0) (now .out) (now .i) _ (summed .result) (now .inv .3) (omega arith)
+          (summed .ensures .0 ∙ rw (part .0)) (c .reduce .ensures),
     )
 
 same-length : tie.Need-same-length Inv-loop μ-loop
 same-length c = c .before .loop .inv .2
 
 returns : tie.Need-returns Inv-loop μ-loop
-returns c = c .before .loop .inv .3 ∙ rows-end _ _ _ _ (c .before .before .before .before .before .before .pre .0) (c .before .loop .i) (omega arith)
+returns c =
+    let now = c .before .loop in
+    let start = c .before .before .before .before .before .before in
+    now .inv .3 ∙ rows-end _ _ _ _ (start .pre .0) (now .i) (omega arith)
 
 pub syndrome-spec : {M : Type 1} → statement M
 syndrome-spec =

@@ -64,7 +64,8 @@ loop-again c =
     let a = turn .before .before .before .args in
     let d = a .d in
     let front = take (now .kept) (now .scratch) in
-    let field : take (kept .result) (kept .last .0) ≡ front ++ keep (d .limit) (d .added) ((now .left % 2 ^ d .width) ∷ []) =
+    let field :
+    take (kept .result) (kept .last .0) ≡ front ++ keep (d .limit) (d .added) ((now .left % 2 ^ d .width) ∷ []) =
     rw (turn .before .pow2 .ensures) at (kept .ensures .1)
     in (
       omega arith,
@@ -82,7 +83,10 @@ returns c =
     let a = c .before .before .before .before .args in
     let d = a .d in (
       omega arith,
-      sym (kept-all (d .limit) (d .added) (d .width) (a .n) (now .i) (now .left) (take (now .kept) (now .scratch)) (c .loop-test .left)) ∙ now .inv .3,
+      sym
+          (kept-all (d .limit) (d .added) (d .width) (a .n) (now .i) (now .left) (take (now .kept) (now .scratch))
+          (c .loop-test .left)) ∙
+          now .inv .3,
     )
 
 pub keep-some-spec : {M : Type 1} → statement M

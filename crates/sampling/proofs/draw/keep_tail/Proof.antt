@@ -30,10 +30,10 @@ returns : tie.Need-returns
 returns c =
     let kept = c .before .before .keep-bytes in
     let a = c .before .before .before .before .before .before .before .args in
-    let few = rest-few (a .d .width) (length (a .block .now) - a .at) (omega arith) in (
+    let d = a .d in
+    let few = rest-few (d .width) (length (a .block .now) - a .at) (omega arith) in (
       omega arith,
-      draws-rest (a .d .width) (a .d .limit) (a .d .added) (a .at) (a .block .now) (take (a .got) (a .scratch .now)) (take (kept .result) (kept .last .0))
-          (kept .ensures .1),
+      draws-rest (d .width) (d .limit) (d .added) (a .at) (a .block .now) (take (a .got) (a .scratch .now)) _ (kept .ensures .1),
     )
 
 pub keep-tail-spec : {M : Type 1} → statement M

@@ -1,22 +1,26 @@
 -- `draw::sample`: what was kept and what the rest of the block yields are together what the block yields.
 -- Assumes nothing.
 use mathlib.Core.Path.{_≡_, refl, _∙_}
-use mathlib.Core.List.{_++_}
-use Prim.Native.Nat.{_+_, _-_, _≤_}
+use mathlib.Core.List.{List, _++_}
+use Prim.Native.Nat.{ℕ, _+_, _-_, _≤_}
 use native.Mathlib.Omega.{arith}
 use lib.ListN.{length, take, drop}
 use Rattle.packing.proofs.Below.{Below, below-index}
+use Rattle.sampling.specs.declared.draw.Draw.{Draw}
 use Rattle.sampling.specs.Sampling.{yield}
 use Rattle.sampling.proofs.Draws.{draws-more, sampled-enough, sampled-all}
 use Rattle.sampling.proofs.draw.sample.Statement.{statement}
 use Rattle.sampling.proofs.draw.sample.Tie as tie
+
+abbrev yields : Draw → List ℕ → List ℕ
+yields d block = yield (d .width) (d .limit) (d .added) block
 
 abbrev Inv-loop : tie.InvT-loop
 Inv-loop scratch₀ block d w n got₀ at₀ scratch got at =
     (at ≤ length block) ×
     (got ≤ d .count + 7) ×
     (length scratch ≡ length scratch₀) ×
-    (take got scratch ++ yield (d .width) (d .limit) (d .added) (drop at block) ≡ yield (d .width) (d .limit) (d .added) block)
+    (take got scratch ++ yields d (drop at block) ≡ yields d block)
 
 abbrev μ-loop : tie.MeasureT-loop
 μ-loop scratch₀ block d w n got₀ at₀ scratch got at = length block - at
@@ -40,7 +44,7 @@ returns c =
     let turn = c .before .before .before .before .before .before in
     let a = turn .before .before .before .args in
     let d = a .d in
-    let all : take (kept .result) (kept .last .0) ≡ yield (d .width) (d .limit) (d .added) (a .block .now) =
+    let all : take (kept .result) (kept .last .0) ≡ yields d (a .block .now) =
     rw (kept .ensures .1) (turn .loop .inv .3)
     in
     sampled-all (d .width) (d .limit) (d .added) (d .count) (kept .result) (kept .last .0) (omega arith) all
@@ -69,7 +73,8 @@ loop-again c =
       omega arith,
       omega arith,
       omega arith,
-      draws-more (d .width) (d .limit) (d .added) (now .at) front next bytes (omega arith) (omega arith) (kept .ensures .1) ∙ now .inv .3,
+      draws-more (d .width) (d .limit) (d .added) (now .at) front next bytes (omega arith) (omega arith) (kept .ensures .1) ∙
+          now .inv .3,
     )
 
 same-length-2 : tie.Need-same-length-2 Inv-loop μ-loop
@@ -81,8 +86,9 @@ returns-2 c =
     let now = c .before .loop in
     let a = c .before .before .before .before .args in
     let d = a .d in
-    let rest = yield (d .width) (d .limit) (d .added) (drop (now .at) (a .block .now)) in
-    sampled-enough (d .width) (d .limit) (d .added) (d .count) (now .got) (now .scratch) rest (c .loop-test .left) (omega arith) (now .inv .3)
+    let rest = yields d (drop (now .at) (a .block .now)) in
+    sampled-enough (d .width) (d .limit) (d .added) (d .count) (now .got) (now .scratch) rest (c .loop-test .left)
+    (omega arith) (now .inv .3)
 
 pub sample-spec : {M : Type 1} → statement M
 sample-spec =
