@@ -17,7 +17,8 @@ stops xs ys {r = zero} e h = absurd (h refl)
 stops xs ys {r = suc k} e h = sym (refused-front xs ys k (sym e))
 
 -- one that passes leaves the answer to what follows it
-pub goes-on : (xs ys : List Check) {r q : ℕ} → r ≡ firstRefusal xs → r ≡ 0 → q ≡ firstRefusal ys → q ≡ firstRefusal (xs ++ ys)
+pub goes-on : (xs ys : List Check) {r q : ℕ} → r ≡ firstRefusal xs → r ≡ 0 → q ≡ firstRefusal ys → q ≡ firstRefusal
+    (xs ++ ys)
 goes-on xs ys e z f = f ∙ sym (passed-front xs ys (sym e ∙ z))
 
 -- of groups in order the first that refuses decides

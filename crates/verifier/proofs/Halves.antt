@@ -30,7 +30,8 @@ module _ {d : ℕ} {old one : List ℕ} (half : Half d old one) where
   pub rest-long : length (take (length (one ++ drop d old) - d) (drop d (one ++ drop d old))) ≡ d
   rest-long = ap length (tail d now) ∙ length-drop d now ∙ omega (arith, half-long)
 
-  module _ (two : List ℕ) (kept : length two ≡ length (take (length (one ++ drop d old) - d) (drop d (one ++ drop d old)))) where
+  module _ (two : List ℕ)
+      (kept : length two ≡ length (take (length (one ++ drop d old) - d) (drop d (one ++ drop d old)))) where
     -- both halves
     pub halves :
         take d (one ++ drop d old)

@@ -18,7 +18,8 @@ use Rattle.verifier.proofs.Fields.{reads, read-vector}
 use Rattle.verifier.proofs.Vectors.{made}
 
 module _ (p : Params) where
-  pub syndrome-read : (key : List ℕ) {old new : List ℕ} {r : ℕ} → Answers (keyFields p key) (syndromeOf p key) old r new → r ≡ 0
+  pub syndrome-read : (key : List ℕ) {old new : List ℕ} {r : ℕ} → Answers (keyFields p key) (syndromeOf p key) old r
+      new → r ≡ 0
       → (new ≡ syndromeOf p key) × Vector 127 (p .n - p .k) new
   unfolding keyFields syndromeOf
   syndrome-read key answers zero =
@@ -39,4 +40,5 @@ module _ (p : Params) where
   -- V is no longer than the local sizes allow
   pub count-fits : Sound p → matrixCount p ≤ 65536
   count-fits sound =
-      mul-le-mul {n₁ = p .n - p .k} {m₁ = p .k} {n₂ = 256} {m₂ = 256} (omega (arith, sound .n-fits)) (omega (arith, sound .k≤n, sound .n-fits))
+      mul-le-mul {n₁ = p .n - p .k} {m₁ = p .k} {n₂ = 256} {m₂ = 256} (omega (arith, sound .n-fits))
+      (omega (arith, sound .k≤n, sound .n-fits))

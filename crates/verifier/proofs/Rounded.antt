@@ -12,10 +12,10 @@ use Rattle.parameters.specs.declared.Params.{Params}
 use Rattle.parameters.specs.Sound.{Sound}
 use Rattle.scheme.specs.Strings.{digest, string2}
 use Rattle.scheme.specs.Round.{replyChecks, replyString, replyResponse}
+use Rattle.scheme.specs.Examine.{examineRound}
 use Rattle.scheme.proofs.PartsStrings.{length-digest}
 use Rattle.expand.proofs.Lent.{Lent}
 use Rattle.verifier.specs.Recomputed.{Recomputed}
-use Rattle.verifier.specs.Steps.{roundChecks}
 use Rattle.verifier.proofs.Answering.{stops, goes-on}
 
 -- two digests in the first places of an array
@@ -48,28 +48,29 @@ module _ {p : Params} (sound : Sound p) {vs s : List ℕ} {b β : ℕ} {reply sa
 
   module _ (matching hi : List ℕ) where
     pub first-differs : same matching (take (p .digest) out) ≡ false
-        → 4 ≡ firstRefusal (roundChecks p vs s salt i β b reply matching hi)
-    unfolding roundChecks
+        → 4 ≡ firstRefusal (examineRound p vs s salt i β b reply matching hi)
+    unfolding examineRound
     first-differs e =
         goes-on (replyChecks p b reply salt i) _ (made .answer) zero (rw (sym (ap (same matching) given-part) ∙ e))
 
     pub second-differs : same matching (take (p .digest) out) ≡ true → same hi (drop (p .digest) out) ≡ false
-        → 4 ≡ firstRefusal (roundChecks p vs s salt i β b reply matching hi)
-    unfolding roundChecks
+        → 4 ≡ firstRefusal (examineRound p vs s salt i β b reply matching hi)
+    unfolding examineRound
     second-differs e f =
         goes-on (replyChecks p b reply salt i) _ (made .answer) zero
         (rw (sym (ap (same matching) given-part) ∙ e, sym (ap (same hi) h-part) ∙ f))
 
     pub both-agree : same matching (take (p .digest) out) ≡ true → same hi (drop (p .digest) out) ≡ true
-        → 0 ≡ firstRefusal (roundChecks p vs s salt i β b reply matching hi)
-    unfolding roundChecks
+        → 0 ≡ firstRefusal (examineRound p vs s salt i β b reply matching hi)
+    unfolding examineRound
     both-agree e f =
         goes-on (replyChecks p b reply salt i) _ (made .answer) zero
         (rw (sym (ap (same matching) given-part) ∙ e, sym (ap (same hi) h-part) ∙ f))
 
-pub reply-stops : {p : Params} {vs s : List ℕ} {b β : ℕ} {reply salt : List ℕ} {i r : ℕ} {out : List ℕ} (matching hi : List ℕ)
+pub reply-stops : {p : Params} {vs s : List ℕ} {b β : ℕ} {reply salt : List ℕ} {i r : ℕ} {out : List ℕ}
+    (matching hi : List ℕ)
     → Recomputed p vs s b β reply salt i r out → (r ≡ 0 → ⊥)
-    → r ≡ firstRefusal (roundChecks p vs s salt i β b reply matching hi)
-unfolding roundChecks
+    → r ≡ firstRefusal (examineRound p vs s salt i β b reply matching hi)
+unfolding examineRound
 reply-stops {p} {vs} {s} {b} {β} {reply} {salt} {i} matching hi made h =
     stops (replyChecks p b reply salt i) _ (made .answer) h

@@ -12,7 +12,15 @@ use Rattle.sampling.proofs.Kept.{sample-below}
 use Rattle.linear.specs.Linear.{response}
 use Rattle.scheme.specs.Strings.{digest, string1, string2, string10-round}
 use Rattle.scheme.specs.Key.{exponentsDrawn}
-use Rattle.scheme.specs.Round.{maskExponents, maskValues, maskBlock, roundDraws, replyChecks, replyString, replyResponse}
+use Rattle.scheme.specs.Round.{
+  maskExponents,
+  maskValues,
+  maskBlock,
+  roundDraws,
+  replyChecks,
+  replyString,
+  replyResponse,
+}
 use Rattle.scheme.proofs.PartsStrings.{below-mask, length-mask, length-values}
 use Rattle.packing.specs.Vector.{Vector}
 use Rattle.verifier.specs.Recomputed.{Recomputed}
@@ -56,5 +64,6 @@ module _ (p : Params) (β : ℕ) (seed salt : List ℕ) (i : ℕ) where
     seed-made u v o =
         record {
           answer = sym drawn;
-          content = λ z. o ∙ (λ j. digest p (string1 (u j) (v j) salt i) ++ digest p (string2 (response β (u j) (v j))));
+          content = λ z. o ∙ (λ j. digest p (string1 (u j) (v j) salt i) ++ digest p
+              (string2 (response β (u j) (v j))));
         }

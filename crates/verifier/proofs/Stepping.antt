@@ -11,9 +11,10 @@ use Rattle.parameters.specs.declared.Params.{Params}
 use Rattle.parameters.specs.Sound.{Sound}
 use Rattle.shake.specs.Fold.{Absorbs}
 use Rattle.scheme.specs.Round.{replySize}
+use Rattle.scheme.specs.Verify.{replyIn, checksIn, broughtIn, givenIn, c0In, c1In, hIn}
 use Rattle.verifier.specs.declared.rounds.Sponges.{Sponges}
 use Rattle.verifier.specs.Recomputed.{Recomputed}
-use Rattle.verifier.specs.Rounds.{replyIn, checksIn, broughtIn, givenIn, c0In, c1In, hIn, Stepped}
+use Rattle.verifier.specs.Rounds.{Stepped}
 use Rattle.verifier.proofs.Rounded.{given-part, h-part}
 
 pick-true : (t : Bool) (x y : List ℕ) → t ≡ true → x ≡ pick t x y
@@ -22,7 +23,7 @@ pick-true t x y e = rw e
 pick-false : (t : Bool) (x y : List ℕ) → t ≡ false → y ≡ pick t x y
 pick-false t x y e = rw e
 
-module _ (p : Params) (vs s salt : List ℕ) (i β b : ℕ) (part : List ℕ) {r : ℕ} {out : List ℕ}
+module _ {p : Params} {vs s salt : List ℕ} {i β b : ℕ} (part : List ℕ) {r : ℕ} {out : List ℕ}
     (made : Recomputed p vs s b β (take (replySize p b) part) salt i r out) where
   pub step-stops : {before after : Sponges} → (r ≡ 0 → ⊥)
       → Stepped p vs s salt i β b part before (record { answer = r; sponges = after })
@@ -38,13 +39,15 @@ module _ (p : Params) (vs s salt : List ℕ) (i β b : ℕ) (part : List ℕ) {r
   module _ (sound : Sound p) (zero : r ≡ 0) {before after : Sponges} where
     -- under 1 the part brings c0(i), and the reply gives c1(i)
     pub step-one : b ≡ 1 → Absorbs (before .c0) (drop (replySize p b) part) (after .c0)
-        → Absorbs (before .c1) (take (p .digest) out) (after .c1) → Absorbs (before .h) (drop (p .digest) out) (after .h)
+        → Absorbs (before .c1) (take (p .digest) out) (after .c1) → Absorbs (before .h) (drop (p .digest) out)
+        (after .h)
         → Stepped p vs s salt i β b part before (record { answer = 0; sponges = after })
     unfolding checksIn replyIn broughtIn givenIn c0In c1In hIn
     step-one e brought given h =
         record {
           answer = sym zero ∙ made .answer;
-          c0 = λ z. subst (λ (x : List ℕ). Absorbs (before .c0) x (after .c0)) (pick-true (eqb b 1) _ _ (eq-eqb b 1 e)) brought;
+          c0 = λ z. subst (λ (x : List ℕ). Absorbs (before .c0) x (after .c0))
+              (pick-true (eqb b 1) _ _ (eq-eqb b 1 e)) brought;
           c1 = λ z.
               subst (λ (x : List ℕ). Absorbs (before .c1) x (after .c1))
               (given-part sound made zero ∙ pick-true (eqb b 1) _ _ (eq-eqb b 1 e)) given;
@@ -53,7 +56,8 @@ module _ (p : Params) (vs s salt : List ℕ) (i β b : ℕ) (part : List ℕ) {r
 
     -- under 0 it is the other way round
     pub step-other : (b ≡ 1 → ⊥) → Absorbs (before .c0) (take (p .digest) out) (after .c0)
-        → Absorbs (before .c1) (drop (replySize p b) part) (after .c1) → Absorbs (before .h) (drop (p .digest) out) (after .h)
+        → Absorbs (before .c1) (drop (replySize p b) part) (after .c1) → Absorbs (before .h) (drop (p .digest) out)
+        (after .h)
         → Stepped p vs s salt i β b part before (record { answer = 0; sponges = after })
     unfolding checksIn replyIn broughtIn givenIn c0In c1In hIn
     step-other e given brought h =
@@ -62,6 +66,7 @@ module _ (p : Params) (vs s salt : List ℕ) (i β b : ℕ) (part : List ℕ) {r
           c0 = λ z.
               subst (λ (x : List ℕ). Absorbs (before .c0) x (after .c0))
               (given-part sound made zero ∙ pick-false (eqb b 1) _ _ (ne-eqb b 1 e)) given;
-          c1 = λ z. subst (λ (x : List ℕ). Absorbs (before .c1) x (after .c1)) (pick-false (eqb b 1) _ _ (ne-eqb b 1 e)) brought;
+          c1 = λ z. subst (λ (x : List ℕ). Absorbs (before .c1) x (after .c1))
+              (pick-false (eqb b 1) _ _ (ne-eqb b 1 e)) brought;
           h = λ z. subst (λ (x : List ℕ). Absorbs (before .h) x (after .h)) (h-part sound made zero) h;
         }

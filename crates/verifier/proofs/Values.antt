@@ -14,7 +14,17 @@ use Rattle.packing.proofs.RoundTrip.{pack-unpack}
 use Rattle.parameters.specs.declared.Params.{Params}
 use Rattle.linear.specs.Linear.{scaled, syndrome, lessTimes}
 use Rattle.scheme.specs.Strings.{digest, string0, string2, roundNumber}
-use Rattle.scheme.specs.Round.{valuesSize, replySize, replyValues, replyExponents, replyFields, replyChecks, replySyndrome, replyString, replyResponse}
+use Rattle.scheme.specs.Round.{
+  valuesSize,
+  replySize,
+  replyValues,
+  replyExponents,
+  replyFields,
+  replyChecks,
+  replySyndrome,
+  replyString,
+  replyResponse,
+}
 use Rattle.verifier.specs.Recomputed.{Recomputed}
 use Rattle.verifier.proofs.Answering.{stops, goes-on}
 use Rattle.verifier.proofs.Fields.{fieldChecks, Read}

@@ -1,21 +1,17 @@
 -- Vectors by how they were made. Assumes nothing.
-use mathlib.Core.Path.{_≡_, _∙_, ap, sym, subst}
+use mathlib.Core.Path.{_≡_, _∙_, ap}
 use mathlib.Core.List.{List}
 use Prim.Native.Nat.{ℕ, _-_}
-use lib.Dec.{T}
 use lib.ListN.{length}
-use Rattle.packing.specs.Packing.{allBelow}
-use Rattle.packing.proofs.Below.{Below, below-test}
+use Rattle.packing.proofs.Below.{Below}
 use Rattle.linear.specs.Linear.{scaled, syndrome, lessTimes}
+use Rattle.linear.proofs.Kept.{kept-below}
 use Rattle.linear.proofs.Sizes.{length-scaled, length-syndrome, length-lessTimes}
 use Rattle.packing.specs.Vector.{Vector}
 
-pub ranged : {m : ℕ} {xs : List ℕ} → Below m xs → T (allBelow m xs)
-ranged b = subst T (sym (below-test b)) tt
-
 -- what equals a list of that length and range
 pub made : (m n : ℕ) {xs ys : List ℕ} → xs ≡ ys → length ys ≡ n → Below m ys → Vector m n xs
-made m n e l b = rw e (record { long = l; ranged = ranged b })
+made m n {ys = ys} e l b = rw e (record { long = l; ranged = kept-below m ys b })
 
 pub same-vector : (m n : ℕ) {xs ys : List ℕ} → xs ≡ ys → Vector m n ys → Vector m n xs
 same-vector m n e v = rw e v

@@ -1,3 +1,2 @@
 pub mod Recomputed
 pub mod Rounds
-pub mod Steps

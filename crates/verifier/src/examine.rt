@@ -1,9 +1,11 @@
 // The round examiner: one round, given its challenges and its commitments.
 use crate::key;
 use crate::reply;
-use crate::rounds;
+use crate::reply::Round;
 use field::Value;
+use parameters::PLACES;
 use parameters::Params;
+use parameters::TWO_DIGESTS;
 ghost use mathlib.Core.Path.{_≡_};
 ghost use Prim.Native.Nat.{_+_, _-_, _*_, _<_};
 ghost use lib.ListN.{length};
@@ -11,11 +13,10 @@ ghost use Rattle.outcome.specs.Answer.{firstRefusal};
 ghost use Rattle.parameters.specs.Sound.{Sound};
 ghost use Rattle.scheme.specs.Key.{matrixCount};
 ghost use Rattle.scheme.specs.Round.{replySize};
-ghost use Rattle.scheme.specs.Examine.{replySized};
+ghost use Rattle.scheme.specs.Examine.{replySized, examineSizes, examineNumbers, examineRound};
 ghost use Rattle.scheme.specs.Entries.{VerifiesRound};
 ghost use Rattle.expand.specs.Scratch.{Scratch};
 ghost use Rattle.packing.specs.Vector.{Vector};
-ghost use Rattle.verifier.specs.Steps.{sizeChecks, numberChecks, roundChecks};
 
 // Whether the reply has its size, which only the challenges 0 and 1 give.
 fn reply_sized(p: Params, challenge: u32, reply: &[u8]) -> bool
@@ -25,7 +26,7 @@ fn reply_sized(p: Params, challenge: u32, reply: &[u8]) -> bool
     if 1 < challenge {
         return true;
     }
-    reply.len() == rounds::reply_size(p, challenge as u8)
+    reply.len() == scheme::reply_size(p, challenge as u8)
 }
 
 fn sizes(
@@ -40,10 +41,11 @@ fn sizes(
 ) -> u8
     requires { ⌜ Sound p ⌝ }
     ensures { λ r.
-        ⌜ r ≡ firstRefusal (sizeChecks p (now (key .entry)) (now (salt .entry)) (now (c0 .entry)) (now (c1 .entry)) (now (h .entry)) challenge (now (reply .entry))) ⌝ }
+        ⌜ r ≡ firstRefusal (examineSizes p (now (key .entry)) (now (salt .entry)) (now (c0 .entry)) (now (c1 .entry))
+        (now (h .entry)) challenge (now (reply .entry))) ⌝ }
 {
     let d = p.digest;
-    if key.len() != d + packing::packed_size(p.n - p.k, 7) {
+    if key.len() != scheme::key_size(p) {
         return 1;
     }
     if salt.len() != d {
@@ -67,7 +69,7 @@ fn sizes(
 // i from 1 to t, β from 1 to 126, the challenge 0 or 1.
 fn numbers(p: Params, i: u32, beta: u32, challenge: u32) -> u8
     requires { ⌜ Sound p ⌝ }
-    ensures { λ r. ⌜ r ≡ firstRefusal (numberChecks p i beta challenge) ⌝ }
+    ensures { λ r. ⌜ r ≡ firstRefusal (examineNumbers p i beta challenge) ⌝ }
 {
     if i < 1 {
         return 3;
@@ -93,22 +95,21 @@ fn round(
     vs: &[u8],
     s: &[u8],
     salt: &[u8],
-    i: usize,
-    beta: Value,
-    b: u8,
+    round: Round,
     reply: &[u8],
     matching: &[u8],
     h: &[u8],
 ) -> u8
-    requires { ⌜ Sound p × Vector 127 (matrixCount p) (now vs) × Vector 127 (p .n - p .k) (now s) × (beta .0 < 127) ⌝ }
-    requires { ⌜ length (now reply) ≡ replySize p b ⌝ }
+    requires { ⌜ Sound p × Vector 127 (matrixCount p) (now vs) × Vector 127 (p .n - p .k) (now s) × (round .beta .0 < 127) ⌝ }
+    requires { ⌜ length (now reply) ≡ replySize p (round .b) ⌝ }
     ensures { λ r.
-        ⌜ r ≡ firstRefusal (roundChecks p (now (vs .entry)) (now (s .entry)) (now (salt .entry)) i (beta .0) b (now (reply .entry)) (now (matching .entry)) (now (h .entry))) ⌝ }
+        ⌜ r ≡ firstRefusal (examineRound p (now (vs .entry)) (now (s .entry)) (now (salt .entry)) (round .i) (round .beta .0)
+        (round .b) (now (reply .entry)) (now (matching .entry)) (now (h .entry))) ⌝ }
 {
     let d = p.digest;
     let end = d + d;
-    let mut out = [0u8; 128];
-    let refusal = reply::recompute(p, vs, s, salt, i, beta, b, reply, &mut out[..end]);
+    let mut out = [0u8; TWO_DIGESTS];
+    let refusal = reply::recompute(p, vs, s, salt, round, reply, &mut out[..end]);
     if refusal != 0 {
         return refusal;
     }
@@ -145,7 +146,7 @@ pub fn examine(
         return refusal;
     }
     let m = p.n - p.k;
-    let mut s = [0u8; 256];
+    let mut s = [0u8; PLACES];
     let fields = key::syndrome(p, key, &mut s[..m]);
     if fields != 0 {
         return fields;
@@ -159,13 +160,18 @@ pub fn examine(
         return 2;
     }
     let count = m * p.k;
-    let first = Value(beta as u8);
-    let index = i as usize;
     let entries = &vs[..count];
     let syndrome = &s[..m];
+    let first = beta as u8;
+    let b = challenge as u8;
+    let given = Round {
+        i: i as usize,
+        beta: Value(first),
+        b,
+    };
     if challenge == 1 {
-        round(p, entries, syndrome, salt, index, first, 1, reply, c1, h)
+        round(p, entries, syndrome, salt, given, reply, c1, h)
     } else {
-        round(p, entries, syndrome, salt, index, first, 0, reply, c0, h)
+        round(p, entries, syndrome, salt, given, reply, c0, h)
     }
 }

@@ -1,5 +1,9 @@
 // One round recomputed from its reply: the commitment that the reply gives, then h(i).
 use field::Value;
+use parameters::DRAWN_PLACES;
+use parameters::PACKED_EXPONENTS;
+use parameters::PACKED_VALUES;
+use parameters::PLACES;
 use parameters::Params;
 ghost use mathlib.Core.Path.{_≡_};
 ghost use mathlib.Core.List.{[], _∷_, _++_};
@@ -14,6 +18,13 @@ ghost use Rattle.scheme.specs.Round.{valuesSize, replySize};
 ghost use Rattle.packing.specs.Vector.{Vector};
 ghost use Rattle.verifier.specs.Recomputed.{Recomputed};
 
+// A round: its number from 1, its first and its second challenge.
+pub struct Round {
+    pub i: usize,
+    pub beta: Value,
+    pub b: u8,
+}
+
 // c1(i): mask values and mask exponents, packed.
 fn commit_mask(p: Params, us: &[u8], es: &[u8], salt: &[u8], i: usize, out: &mut [u8])
     requires { ⌜ Sound p × Vector 127 (p .n) (now us) × Vector 7 (p .n) (now es) × (length (now out) ≡ p .digest) ⌝ }
@@ -21,9 +32,9 @@ fn commit_mask(p: Params, us: &[u8], es: &[u8], salt: &[u8], i: usize, out: &mut
 {
     let u = packing::packed_size(p.n, 7);
     let e = packing::packed_size(p.n, 3);
-    let mut values = [0u8; 224];
+    let mut values = [0u8; PACKED_VALUES];
     expand::pack_values(us, &mut values[..u]);
-    let mut exponents = [0u8; 96];
+    let mut exponents = [0u8; PACKED_EXPONENTS];
     expand::pack_exponents(es, &mut exponents[..e]);
     let number = expand::round_number(i);
     hashing::hash4(p.rate, 1, &values[..u], &exponents[..e], salt, &number, out);
@@ -35,42 +46,45 @@ fn commit_response(p: Params, ys: &[u8], out: &mut [u8])
     ensures { λ _. ⌜ now (out .exit) ≡ digest p (string2 (now (ys .entry))) ⌝ }
 {
     let y = packing::packed_size(p.n, 7);
-    let mut values = [0u8; 224];
+    let mut values = [0u8; PACKED_VALUES];
     expand::pack_values(ys, &mut values[..y]);
     hashing::hash1(p.rate, 2, &values[..y], out);
 }
 
 // Both digests from the mask values u' and the mask exponents e'.
-fn from_mask(p: Params, us: &[u8], es: &[u8], salt: &[u8], i: usize, beta: Value, out: &mut [u8])
-    requires { ⌜ Sound p × Vector 127 (p .n) (now us) × Vector 7 (p .n) (now es) × (beta .0 < 127) × (length (now out) ≡ 2 * p .digest) ⌝ }
+fn from_mask(p: Params, us: &[u8], es: &[u8], salt: &[u8], round: Round, out: &mut [u8])
+    requires { ⌜ Sound p × Vector 127 (p .n) (now us) × Vector 7 (p .n) (now es) × (round .beta .0 < 127)
+        × (length (now out) ≡ 2 * p .digest) ⌝ }
     ensures { λ _.
         ⌜ now (out .exit) ≡
-        digest p (string1 (now (us .entry)) (now (es .entry)) (now (salt .entry)) i) ++
-        digest p (string2 (response (beta .0) (now (us .entry)) (now (es .entry)))) ⌝ }
+        digest p (string1 (now (us .entry)) (now (es .entry)) (now (salt .entry)) (round .i)) ++
+        digest p (string2 (response (round .beta .0) (now (us .entry)) (now (es .entry)))) ⌝ }
 {
     let n = p.n;
     let d = p.digest;
-    commit_mask(p, us, es, salt, i, &mut out[..d]);
-    let mut ys = [0u8; 256];
+    commit_mask(p, us, es, salt, round.i, &mut out[..d]);
+    let mut ys = [0u8; PLACES];
+    let beta = round.beta;
     linear::respond(beta, us, es, &mut ys[..n]);
     commit_response(p, &ys[..n], &mut out[d..]);
 }
 
 // Under the second challenge 1: the reply is the round's seed.
-fn from_seed(p: Params, salt: &[u8], i: usize, beta: Value, seed: &[u8], out: &mut [u8]) -> u8
-    requires { ⌜ Sound p × (beta .0 < 127) × (length (now out) ≡ 2 * p .digest) ⌝ }
-    ensures { λ r. ⌜ Recomputed p [] [] 1 (beta .0) (now (seed .entry)) (now (salt .entry)) i r (now (out .exit)) ⌝ }
+fn from_seed(p: Params, salt: &[u8], round: Round, seed: &[u8], out: &mut [u8]) -> u8
+    requires { ⌜ Sound p × (round .beta .0 < 127) × (length (now out) ≡ 2 * p .digest) ⌝ }
+    ensures { λ r. ⌜ Recomputed p [] [] 1 (round .beta .0) (now (seed .entry)) (now (salt .entry)) (round .i) r (now (out .exit)) ⌝ }
 {
     let n = p.n;
-    let mut es = [0u8; 264];
+    let i = round.i;
+    let mut es = [0u8; DRAWN_PLACES];
     if !expand::mask_exponents(p, seed, salt, i, &mut es) {
         return 2;
     }
-    let mut us = [0u8; 264];
+    let mut us = [0u8; DRAWN_PLACES];
     if !expand::mask_values(p, seed, salt, i, &mut us) {
         return 2;
     }
-    from_mask(p, &us[..n], &es[..n], salt, i, beta, out);
+    from_mask(p, &us[..n], &es[..n], salt, round, out);
     0
 }
 
@@ -85,9 +99,9 @@ fn reply_syndrome(p: Params, vs: &[u8], s: &[u8], beta: Value, es: &[u8], ys: &[
     let n = p.n;
     let k = p.k;
     let m = n - k;
-    let mut scaled = [0u8; 256];
+    let mut scaled = [0u8; PLACES];
     linear::scale(es, ys, &mut scaled[..n]);
-    let mut product = [0u8; 256];
+    let mut product = [0u8; PLACES];
     linear::syndrome(k, vs, &scaled[..n], &mut product[..m]);
     linear::subtract(beta, &product[..m], s, out);
 }
@@ -100,7 +114,7 @@ fn commit_syndrome(p: Params, xs: &[u8], exponents: &[u8], salt: &[u8], i: usize
         digest p (0 ∷ pack 7 (now (xs .entry)) ++ now (exponents .entry) ++ now (salt .entry) ++ roundNumber i) ⌝ }
 {
     let x = packing::packed_size(p.n - p.k, 7);
-    let mut values = [0u8; 224];
+    let mut values = [0u8; PACKED_VALUES];
     expand::pack_values(xs, &mut values[..x]);
     let number = expand::round_number(i);
     hashing::hash4(p.rate, 0, &values[..x], exponents, salt, &number, out);
@@ -126,32 +140,33 @@ fn from_values(
     vs: &[u8],
     s: &[u8],
     salt: &[u8],
-    i: usize,
-    beta: Value,
+    round: Round,
     reply: &[u8],
     out: &mut [u8],
 ) -> u8
-    requires { ⌜ Sound p × Vector 127 (matrixCount p) (now vs) × Vector 127 (p .n - p .k) (now s) × (beta .0 < 127) ⌝ }
+    requires { ⌜ Sound p × Vector 127 (matrixCount p) (now vs) × Vector 127 (p .n - p .k) (now s) × (round .beta .0 < 127) ⌝ }
     requires { ⌜ (length (now reply) ≡ replySize p 0) × (length (now out) ≡ 2 * p .digest) ⌝ }
     ensures { λ r.
-        ⌜ Recomputed p (now (vs .entry)) (now (s .entry)) 0 (beta .0) (now (reply .entry)) (now (salt .entry)) i r (now (out .exit)) ⌝ }
+        ⌜ Recomputed p (now (vs .entry)) (now (s .entry)) 0 (round .beta .0) (now (reply .entry)) (now (salt .entry)) (round .i) r
+        (now (out .exit)) ⌝ }
 {
     let n = p.n;
     let m = n - p.k;
     let cut = packing::packed_size(n, 7);
-    let mut ys = [0u8; 256];
+    let mut ys = [0u8; PLACES];
     let values = packing::unpack_values(&reply[..cut], &mut ys[..n]);
     if values != 0 {
         return values;
     }
-    let mut es = [0u8; 256];
+    let mut es = [0u8; PLACES];
     let exponents = packing::unpack_exponents(&reply[cut..], &mut es[..n]);
     if exponents != 0 {
         return exponents;
     }
-    let mut xs = [0u8; 256];
+    let beta = round.beta;
+    let mut xs = [0u8; PLACES];
     reply_syndrome(p, vs, s, beta, &es[..n], &ys[..n], &mut xs[..m]);
-    from_fields(p, &xs[..m], reply, salt, i, out);
+    from_fields(p, &xs[..m], reply, salt, round.i, out);
     0
 }
 
@@ -161,20 +176,19 @@ pub fn recompute(
     vs: &[u8],
     s: &[u8],
     salt: &[u8],
-    i: usize,
-    beta: Value,
-    b: u8,
+    round: Round,
     reply: &[u8],
     out: &mut [u8],
 ) -> u8
-    requires { ⌜ Sound p × Vector 127 (matrixCount p) (now vs) × Vector 127 (p .n - p .k) (now s) × (beta .0 < 127) ⌝ }
-    requires { ⌜ (length (now reply) ≡ replySize p b) × (length (now out) ≡ 2 * p .digest) ⌝ }
+    requires { ⌜ Sound p × Vector 127 (matrixCount p) (now vs) × Vector 127 (p .n - p .k) (now s) × (round .beta .0 < 127) ⌝ }
+    requires { ⌜ (length (now reply) ≡ replySize p (round .b)) × (length (now out) ≡ 2 * p .digest) ⌝ }
     ensures { λ r.
-        ⌜ Recomputed p (now (vs .entry)) (now (s .entry)) b (beta .0) (now (reply .entry)) (now (salt .entry)) i r (now (out .exit)) ⌝ }
+        ⌜ Recomputed p (now (vs .entry)) (now (s .entry)) (round .b) (round .beta .0) (now (reply .entry)) (now (salt .entry))
+        (round .i) r (now (out .exit)) ⌝ }
 {
-    if b == 1 {
-        from_seed(p, salt, i, beta, reply, out)
+    if round.b == 1 {
+        from_seed(p, salt, round, reply, out)
     } else {
-        from_values(p, vs, s, salt, i, beta, reply, out)
+        from_values(p, vs, s, salt, round, reply, out)
     }
 }

@@ -1,7 +1,10 @@
 // The rounds of a signature, upward: each is recomputed from its reply, and its three digests go into sponges.
 use crate::reply;
+use crate::reply::Round;
 use field::Value;
+use parameters::DIGEST;
 use parameters::Params;
+use parameters::TWO_DIGESTS;
 use shake::Sponge;
 ghost use mathlib.Core.Path.{_≡_};
 ghost use Prim.Native.Nat.{_+_, _-_, _<_};
@@ -10,10 +13,10 @@ ghost use lib.ListN.{length};
 ghost use Rattle.parameters.specs.Sound.{Sound};
 ghost use Rattle.shake.specs.Fold.{Absorbs};
 ghost use Rattle.scheme.specs.Key.{matrixCount};
-ghost use Rattle.scheme.specs.Round.{replySize};
 ghost use Rattle.scheme.specs.Sign.{partSize};
+ghost use Rattle.scheme.specs.Verify.{offset};
 ghost use Rattle.packing.specs.Vector.{Vector};
-ghost use Rattle.verifier.specs.Rounds.{Stepped, AllReady, HoldAll, Compared, Ran, offset};
+ghost use Rattle.verifier.specs.Rounds.{Stepped, AllReady, HoldAll, Compared, Ran};
 
 // What goes in: all c0(i), all c1(i), all h(i).
 pub struct Sponges {
@@ -26,18 +29,6 @@ pub struct Sponges {
 pub struct Rounds {
     pub answer: u8,
     pub sponges: Sponges,
-}
-
-// Bytes of the reply to a second challenge.
-pub fn reply_size(p: Params, b: u8) -> usize
-    requires { ⌜ Sound p ⌝ }
-    ensures { λ r. ⌜ r ≡ replySize p b ⌝ }
-{
-    if b == 1 {
-        p.seed
-    } else {
-        packing::packed_size(p.n, 7) + packing::packed_size(p.n, 3)
-    }
 }
 
 // The two commitments of a round, in the order c0(i), c1(i), and h(i).
@@ -53,27 +44,26 @@ fn absorb_round(sponges: Sponges, c0: &[u8], c1: &[u8], h: &[u8]) -> Sponges
     }
 }
 
-// Round i, from its part of the signature.
+// One round, from its part of the signature.
 fn step(
     p: Params,
     vs: &[u8],
     s: &[u8],
     salt: &[u8],
-    i: usize,
-    beta: Value,
-    b: u8,
+    round: Round,
     part: &[u8],
     sponges: Sponges,
 ) -> Rounds
-    requires { ⌜ Sound p × Vector 127 (matrixCount p) (now vs) × Vector 127 (p .n - p .k) (now s) × (beta .0 < 127) ⌝ }
-    requires { ⌜ (length (now part) ≡ partSize p b) × AllReady sponges ⌝ }
-    ensures { λ r. ⌜ Stepped p (now (vs .entry)) (now (s .entry)) (now (salt .entry)) i (beta .0) b (now (part .entry)) sponges r ⌝ }
+    requires { ⌜ Sound p × Vector 127 (matrixCount p) (now vs) × Vector 127 (p .n - p .k) (now s) × (round .beta .0 < 127) ⌝ }
+    requires { ⌜ (length (now part) ≡ partSize p (round .b)) × AllReady sponges ⌝ }
+    ensures { λ r. ⌜ Stepped p (now (vs .entry)) (now (s .entry)) (now (salt .entry)) (round .i) (round .beta .0) (round .b)
+        (now (part .entry)) sponges r ⌝ }
 {
     let d = p.digest;
     let end = d + d;
-    let cut = reply_size(p, b);
-    let mut out = [0u8; 128];
-    let answer = reply::recompute(p, vs, s, salt, i, beta, b, &part[..cut], &mut out[..end]);
+    let cut = scheme::reply_size(p, round.b);
+    let mut out = [0u8; TWO_DIGESTS];
+    let answer = reply::recompute(p, vs, s, salt, round, &part[..cut], &mut out[..end]);
     if answer != 0 {
         return Rounds { answer, sponges };
     }
@@ -81,7 +71,7 @@ fn step(
     let given = &made[..d];
     let h = &made[d..];
     let brought = &part[cut..];
-    if b == 1 {
+    if round.b == 1 {
         let after = absorb_round(sponges, brought, given, h);
         Rounds {
             answer: 0,
@@ -121,28 +111,24 @@ pub fn run(
 ) -> Rounds
     requires { ⌜ Sound p × Vector 127 (matrixCount p) (now vs) × Vector 127 (p .n - p .k) (now s) ⌝ }
     requires { ⌜ Vector 127 (p .t) (now betas) × (length (now bs) ≡ p .t)
-        × (offset p (now vs) (now s) (now salt) (now rounds) (now betas) (now bs) (p .t) ≡ length (now rounds)) ⌝ }
-    ensures { λ r. ⌜ Ran p (now (vs .entry)) (now (s .entry)) (now (salt .entry)) (now (rounds .entry)) (now (betas .entry)) (now (bs .entry)) r ⌝ }
+        × (offset p (now bs) (p .t) ≡ length (now rounds)) ⌝ }
+    ensures { λ r. ⌜ Ran p (now (vs .entry)) (now (s .entry)) (now (salt .entry)) (now (rounds .entry)) (now (betas .entry))
+        (now (bs .entry)) r ⌝ }
 {
     let t = p.t;
-    let d = p.digest;
     let mut sponges = begin(p);
     let mut at = 0;
     let mut j = 0;
     while j < t {
+        let beta = betas[j];
         let b = bs[j];
-        let end = at + reply_size(p, b) + d;
-        let next = step(
-            p,
-            vs,
-            s,
-            salt,
-            j + 1,
-            Value(betas[j]),
+        let round = Round {
+            i: j + 1,
+            beta: Value(beta),
             b,
-            &rounds[at..end],
-            sponges,
-        );
+        };
+        let end = at + scheme::part_size(p, b);
+        let next = step(p, vs, s, salt, round, &rounds[at..end], sponges);
         if next.answer != 0 {
             return next;
         }
@@ -159,17 +145,17 @@ pub fn compare(p: Params, sponges: Sponges, c: &[u8], h: &[u8]) -> u8
     ensures { λ r. ⌜ Compared p sponges (now (c .entry)) (now (h .entry)) r ⌝ }
 {
     let d = p.digest;
-    let mut c0 = [0u8; 64];
+    let mut c0 = [0u8; DIGEST];
     shake::squeeze(sponges.c0, &mut c0[..d]);
-    let mut c1 = [0u8; 64];
+    let mut c1 = [0u8; DIGEST];
     shake::squeeze(sponges.c1, &mut c1[..d]);
-    let mut made = [0u8; 64];
+    let mut made = [0u8; DIGEST];
     hashing::hash2(p.rate, 5, &c0[..d], &c1[..d], &mut made[..d]);
     let commitment = &made[..d];
     if !buffers::equal(c, commitment) {
         return 4;
     }
-    let mut hs = [0u8; 64];
+    let mut hs = [0u8; DIGEST];
     shake::squeeze(sponges.h, &mut hs[..d]);
     let hash = &hs[..d];
     if !buffers::equal(h, hash) {

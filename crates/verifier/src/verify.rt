@@ -1,7 +1,10 @@
 // Verifying a signature, as Figure 5 of CROSS 1.1 recomputes it.
 use crate::key;
 use crate::rounds;
+use parameters::DRAWN_ROUNDS;
+use parameters::PLACES;
 use parameters::Params;
+use parameters::ROUNDS;
 ghost use mathlib.Core.Path.{_≡_};
 ghost use Prim.Native.Nat.{_+_, _-_, _*_};
 ghost use lib.ListN.{length};
@@ -9,26 +12,22 @@ ghost use Rattle.outcome.specs.Answer.{firstRefusal};
 ghost use Rattle.parameters.specs.Sound.{Sound};
 ghost use Rattle.scheme.specs.Key.{matrixCount};
 ghost use Rattle.scheme.specs.Sign.{signatureSize};
-ghost use Rattle.scheme.specs.Verify.{pieceChecks, saltOf, cOf, hOf, roundsOf};
+ghost use Rattle.scheme.specs.Verify.{verifySizes, pieceChecks, saltOf, cOf, hOf, roundsOf};
 ghost use Rattle.scheme.specs.Entries.{Verifies};
 ghost use Rattle.expand.specs.Scratch.{Scratch};
 ghost use Rattle.packing.specs.Vector.{Vector};
-ghost use Rattle.verifier.specs.Steps.{lengthChecks};
 
 fn sizes(p: Params, key: usize, msg: usize, sig: usize) -> u8
     requires { ⌜ Sound p ⌝ }
-    ensures { λ r. ⌜ r ≡ firstRefusal (lengthChecks p key msg sig) ⌝ }
+    ensures { λ r. ⌜ r ≡ firstRefusal (verifySizes p key msg sig) ⌝ }
 {
-    let d = p.digest;
-    if key != d + packing::packed_size(p.n - p.k, 7) {
+    if key != scheme::key_size(p) {
         return 1;
     }
-    if 65536 < msg {
+    if scheme::MESSAGE_MAX < msg {
         return 1;
     }
-    let ones = p.w * (rounds::reply_size(p, 1) + d);
-    let zeros = (p.t - p.w) * (rounds::reply_size(p, 0) + d);
-    if sig != 3 * d + ones + zeros {
+    if sig != scheme::signature_size(p) {
         return 1;
     }
     0
@@ -47,11 +46,11 @@ fn pieces(p: Params, vs: &[u8], s: &[u8], msg: &[u8], sig: &[u8]) -> u8
     let salt = &sig[..d];
     let c = &sig[d..d2];
     let h = &sig[d2..d3];
-    let mut betas = [0u8; 520];
+    let mut betas = [0u8; DRAWN_ROUNDS];
     if !expand::first_challenges(p, c, salt, msg, &mut betas) {
         return 2;
     }
-    let mut bs = [0u8; 512];
+    let mut bs = [0u8; ROUNDS];
     if !expand::second_challenges(p, c, &betas[..t], h, salt, msg, &mut bs[..t]) {
         return 2;
     }
@@ -71,7 +70,7 @@ pub fn verify(p: Params, key: &[u8], msg: &[u8], sig: &[u8], block: &mut [u8], v
         return refusal;
     }
     let m = p.n - p.k;
-    let mut s = [0u8; 256];
+    let mut s = [0u8; PLACES];
     let fields = key::syndrome(p, key, &mut s[..m]);
     if fields != 0 {
         return fields;

@@ -10,9 +10,7 @@ use Rattle.verifier.proofs.examine.reply_sized.Statement.{statement}
 use Rattle.verifier.proofs.examine.reply_sized.Tie as tie
 
 returns : tie.Need-returns
-returns c =
-    let start = c .before .before in
-    rw (lt-leb (start .args .challenge) 1 (c .if1 .taken))
+returns c = rw (lt-leb ((c .before .before) .args .challenge) 1 (c .if1 .taken))
 
 cast-reply-size : tie.Need-cast-reply-size
 cast-reply-size c = omega arith
@@ -22,9 +20,12 @@ reply-size-requires c κs = search needs
 
 returns-2 : tie.Need-returns-2
 returns-2 c =
-    let start = c .before .before .before in
-    rw (le-leb (start .args .challenge) 1 (c .before .if1 .left))
+    let at-if1 = c .before in
+    let start = at-if1 .before .before in
+    rw (le-leb (start .args .challenge) 1 (at-if1 .if1 .left))
     (ap (λ (k : ℕ). eqb (length (start .args .reply .now)) k) (c .reply-size .ensures))
 
 pub reply-sized-spec : {M : Type 1} → statement M
-reply-sized-spec = tie.close (tie.spec returns cast-reply-size reply-size-requires returns-2)
+reply-sized-spec =
+    tie.close
+    (tie.spec returns cast-reply-size reply-size-requires returns-2)

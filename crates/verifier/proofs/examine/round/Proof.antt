@@ -9,9 +9,20 @@ use lib.ListN.{length, take, drop, replicate}
 use lib.Seq.{length-take-le}
 use Rattle.outcome.specs.Lists.{same}
 use Rattle.expand.proofs.Lent.{Lent, part-length, lent-within}
-use Rattle.verifier.proofs.Rounded.{reply-stops, first-part, second-part, first-differs, second-differs, both-agree}
+use Rattle.verifier.proofs.Rounded.{
+  reply-stops,
+  first-part,
+  second-part,
+  first-differs,
+  second-differs,
+  both-agree,
+}
 use Rattle.verifier.proofs.examine.round.Statement.{statement}
 use Rattle.verifier.proofs.examine.round.Tie as tie
+
+-- the entry of the function, from its places
+abbrev entry-recompute : tie.After-recompute → tie.Start
+entry-recompute c = c .before .before .before .before .before .before .before .before
 
 -- two digests fit the array
 fits : (c : tie.Start) → c .args .p .digest + c .args .p .digest ≤ 128
@@ -39,52 +50,49 @@ recompute-requires c κs =
     let long = part-length (d + d) (replicate 128 0) (fits start) in
     (start .pre .0, (start .pre .1, omega (arith, long)))
 
-abbrev entry-recompute : tie.After-recompute → tie.Start
-entry-recompute c = c .before .before .before .before .before .before .before .before
-
-lent : (c : tie.After-recompute) → Lent (entry-recompute c .args .p .digest + entry-recompute c .args .p .digest) (replicate 128 0) (c .recompute .last .1 .1 .1 .1 .1 .1 .1 .1 .0)
-lent c =
-    let start = c .before .before .before .before .before .before .before .before in
-    record { fits = fits start; kept = c .recompute .kept .1 .1 .1 .1 .1 .1 .1 .1 .0 }
+lent : (c : tie.After-recompute) → Lent (entry-recompute c .args .p .digest + entry-recompute c .args .p .digest)
+    (replicate 128 0) (c .recompute .last .1 .1 .1 .1 .1 .1 .0)
+lent c = record { fits = fits (entry-recompute c); kept = c .recompute .kept .1 .1 .1 .1 .1 .1 .0 }
 
 returns : tie.Need-returns
 returns c =
-    let start = c .before .before .before .before .before .before .before .before .before .before in
-    let recompute = c .before .before .recompute in
-    reply-stops (start .args .matching .now) (start .args .h .now) (recompute .ensures) (c .if1 .taken)
+    let at-recompute = c .before .before in
+    let start = entry-recompute at-recompute in
+    reply-stops (start .args .matching .now) (start .args .h .now) (at-recompute .recompute .ensures) (c .if1 .taken)
 
 -- the first digest lies within the array
-within : (c : tie.After-recompute) → entry-recompute c .args .p .digest ≤ length (c .recompute .last .1 .1 .1 .1 .1 .1 .1 .1 .0 ++ drop (entry-recompute c .args .p .digest + entry-recompute c .args .p .digest) (replicate 128 0))
+within : (c : tie.After-recompute) → entry-recompute c .args .p .digest ≤ length
+    (c .recompute .last .1 .1 .1 .1 .1 .1 .0 ++ drop
+    (entry-recompute c .args .p .digest + entry-recompute c .args .p .digest) (replicate 128 0))
 within c = omega (arith, lent-within (lent c))
 
 array-share-prefix-out : tie.Need-array-share-prefix-out
-array-share-prefix-out c =
-    let at-recompute = c .before .before in
-    within at-recompute
+array-share-prefix-out c = within (c .before .before)
 
 slice-aggregate-equal : tie.Need-slice-aggregate-equal
-slice-aggregate-equal c =
-    let at-recompute = c .before .before .before in
-    sym (length-take-le _ _ (within at-recompute))
+slice-aggregate-equal c = sym (length-take-le _ _ (within (c .before .before .before)))
 
 -- the first digest, as it is compared
-first : (c : tie.After-recompute) → take (entry-recompute c .args .p .digest) (c .recompute .last .1 .1 .1 .1 .1 .1 .1 .1 .0 ++ drop (entry-recompute c .args .p .digest + entry-recompute c .args .p .digest) (replicate 128 0)) ≡ take (entry-recompute c .args .p .digest) (c .recompute .last .1 .1 .1 .1 .1 .1 .1 .1 .0)
-first c =
-    let start = c .before .before .before .before .before .before .before .before in
-    first-part (start .args .p .digest) (lent c)
+first : (c : tie.After-recompute) → take (entry-recompute c .args .p .digest)
+    (c .recompute .last .1 .1 .1 .1 .1 .1 .0 ++ drop
+    (entry-recompute c .args .p .digest + entry-recompute c .args .p .digest) (replicate 128 0)) ≡ take
+    (entry-recompute c .args .p .digest) (c .recompute .last .1 .1 .1 .1 .1 .1 .0)
+first c = first-part ((entry-recompute c) .args .p .digest) (lent c)
 
 equal-requires : tie.Need-equal-requires
 equal-requires c κs = search needs
 
 returns-2 : tie.Need-returns-2
 returns-2 c =
-    let start = c .before .before .before .before .before .before .before .before .before .before .before .before .before in
-    let at-recompute = c .before .before .before .before .before in
-    let recompute = c .before .before .before .before .before .recompute in
-    let if1 = c .before .before .before .if1 in
+    let at-equal = c .before in
+    let at-if1 = at-equal .before .before in
+    let at-recompute = at-if1 .before .before in
+    let start = entry-recompute at-recompute in
     let a = start .args in
-    first-differs (start .pre .0 .0) (recompute .ensures) (if1 .left) (a .matching .now) (a .h .now)
-    (sym (ap (same (a .matching .now)) (first at-recompute)) ∙ sym (c .before .equal .ensures) ∙ not-true (c .before .equal .result) (c .if2 .taken))
+    first-differs (start .pre .0 .0) (at-recompute .recompute .ensures) (at-if1 .if1 .left) (a .matching .now)
+    (a .h .now)
+    (sym (ap (same (a .matching .now)) (first at-recompute)) ∙ sym (at-equal .equal .ensures) ∙ not-true
+    (at-equal .equal .result) (c .if2 .taken))
 
 sub-equal : tie.Need-sub-equal
 sub-equal c = omega arith
@@ -98,39 +106,50 @@ part-equal-end c =
     lent-within (lent at-recompute)
 
 -- the second digest, as it is compared
-second : (c : tie.After-recompute) → take (entry-recompute c .args .p .digest + entry-recompute c .args .p .digest - entry-recompute c .args .p .digest) (drop (entry-recompute c .args .p .digest) (c .recompute .last .1 .1 .1 .1 .1 .1 .1 .1 .0 ++ drop (entry-recompute c .args .p .digest + entry-recompute c .args .p .digest) (replicate 128 0))) ≡ drop (entry-recompute c .args .p .digest) (c .recompute .last .1 .1 .1 .1 .1 .1 .1 .1 .0)
-second c =
-    let start = c .before .before .before .before .before .before .before .before in
-    second-part (start .args .p .digest) (lent c)
+second : (c : tie.After-recompute) → take (entry-recompute c .args .p .digest + entry-recompute c .args .p .digest -
+    entry-recompute c .args .p .digest) (drop (entry-recompute c .args .p .digest)
+    (c .recompute .last .1 .1 .1 .1 .1 .1 .0 ++ drop
+    (entry-recompute c .args .p .digest + entry-recompute c .args .p .digest) (replicate 128 0))) ≡ drop
+    (entry-recompute c .args .p .digest) (c .recompute .last .1 .1 .1 .1 .1 .1 .0)
+second c = second-part ((entry-recompute c) .args .p .digest) (lent c)
 
 equal-requires-2 : tie.Need-equal-requires-2
 equal-requires-2 c κs = search needs
 
 returns-3 : tie.Need-returns-3
 returns-3 c =
-    let start = c .before .before .before .before .before .before .before .before .before .before .before .before .before .before .before .before .before in
-    let at-recompute = c .before .before .before .before .before .before .before .before .before in
-    let recompute = c .before .before .before .before .before .before .before .before .before .recompute in
-    let if1 = c .before .before .before .before .before .before .before .if1 in
-    let equal = c .before .before .before .before .before .equal in
-    let if2 = c .before .before .before .before .if2 in
+    let at-equal2 = c .before in
+    let at-if2 = at-equal2 .before .before .before in
+    let at-equal = at-if2 .before in
+    let at-if1 = at-equal .before .before in
+    let at-recompute = at-if1 .before .before in
+    let start = entry-recompute at-recompute in
     let a = start .args in
-    second-differs (start .pre .0 .0) (recompute .ensures) (if1 .left) (a .matching .now) (a .h .now)
-    (sym (ap (same (a .matching .now)) (first at-recompute)) ∙ sym (equal .ensures) ∙ not-false (equal .result) (if2 .left))
-    (sym (ap (same (a .h .now)) (second at-recompute)) ∙ sym (c .before .equal2 .ensures) ∙ not-true (c .before .equal2 .result) (c .if3 .taken))
+    second-differs (start .pre .0 .0) (at-recompute .recompute .ensures) (at-if1 .if1 .left) (a .matching .now)
+    (a .h .now)
+    (sym (ap (same (a .matching .now)) (first at-recompute)) ∙ sym (at-equal .equal .ensures) ∙ not-false
+    (at-equal .equal .result) (at-if2 .if2 .left))
+    (sym (ap (same (a .h .now)) (second at-recompute)) ∙ sym (at-equal2 .equal2 .ensures) ∙ not-true
+    (at-equal2 .equal2 .result) (c .if3 .taken))
 
 returns-4 : tie.Need-returns-4
 returns-4 c =
-    let start = c .before .before .before .before .before .before .before .before .before .before .before .before .before .before .before .before .before in
-    let at-recompute = c .before .before .before .before .before .before .before .before .before in
-    let recompute = c .before .before .before .before .before .before .before .before .before .recompute in
-    let if1 = c .before .before .before .before .before .before .before .if1 in
-    let equal = c .before .before .before .before .before .equal in
-    let if2 = c .before .before .before .before .if2 in
+    let at-equal2 = c .before in
+    let at-if2 = at-equal2 .before .before .before in
+    let at-equal = at-if2 .before in
+    let at-if1 = at-equal .before .before in
+    let at-recompute = at-if1 .before .before in
+    let start = entry-recompute at-recompute in
     let a = start .args in
-    both-agree (start .pre .0 .0) (recompute .ensures) (if1 .left) (a .matching .now) (a .h .now)
-    (sym (ap (same (a .matching .now)) (first at-recompute)) ∙ sym (equal .ensures) ∙ not-false (equal .result) (if2 .left))
-    (sym (ap (same (a .h .now)) (second at-recompute)) ∙ sym (c .before .equal2 .ensures) ∙ not-false (c .before .equal2 .result) (c .if3 .left))
+    both-agree (start .pre .0 .0) (at-recompute .recompute .ensures) (at-if1 .if1 .left) (a .matching .now) (a .h .now)
+    (sym (ap (same (a .matching .now)) (first at-recompute)) ∙ sym (at-equal .equal .ensures) ∙ not-false
+    (at-equal .equal .result) (at-if2 .if2 .left))
+    (sym (ap (same (a .h .now)) (second at-recompute)) ∙ sym (at-equal2 .equal2 .ensures) ∙ not-false
+    (at-equal2 .equal2 .result) (c .if3 .left))
 
 pub round-spec : {M : Type 1} → statement M
-round-spec = tie.close (tie.spec add-end array-borrow-prefix-out slice-aggregate-recompute recompute-requires returns array-share-prefix-out slice-aggregate-equal equal-requires returns-2 sub-equal part-equal-start part-equal-end equal-requires-2 returns-3 returns-4)
+round-spec =
+    tie.close
+    (tie.spec add-end array-borrow-prefix-out slice-aggregate-recompute recompute-requires returns
+    array-share-prefix-out slice-aggregate-equal equal-requires returns-2 sub-equal part-equal-start part-equal-end
+    equal-requires-2 returns-3 returns-4)

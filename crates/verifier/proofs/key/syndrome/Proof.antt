@@ -27,12 +27,16 @@ same-length c = search needs
 returns : tie.Need-returns
 unfolding keyFields syndromeOf
 returns c =
-    let start = c .before .before .before .before .before .before .before in
-    let unpack-values = c .before .before .unpack-values in
+    let at-unpack-values = c .before .before in
+    let start = at-unpack-values .before .before .before .before .before in
     let a = start .args in
     let d = a .p .digest in
-    unpacked 7 127 (a .p .n - a .p .k) (start .pre .2) (tail d (a .key .now)) (omega (arith, length-drop d (a .key .now), start .pre .1))
-    (unpack-values .ensures)
+    unpacked 7 127 (a .p .n - a .p .k) (start .pre .2) (tail d (a .key .now))
+    (omega (arith, length-drop d (a .key .now), start .pre .1))
+    (at-unpack-values .unpack-values .ensures)
 
 pub syndrome-spec : {M : Type 1} → statement M
-syndrome-spec = tie.close (tie.spec sub-unpack-values part-unpack-values-start part-unpack-values-end unpack-values-requires same-length returns)
+syndrome-spec =
+    tie.close
+    (tie.spec sub-unpack-values part-unpack-values-start part-unpack-values-end unpack-values-requires same-length
+    returns)

@@ -35,48 +35,42 @@ array-borrow-prefix-values c = fits7 (c .before)
 slice-aggregate-pack-values : tie.Need-slice-aggregate-pack-values
 slice-aggregate-pack-values c =
     let at-packed-size = c .before .before in
-    let packed-size = c .before .before .packed-size in
-    part-length (packed-size .result) (replicate 224 0) (fits7 at-packed-size)
+    part-length (at-packed-size .packed-size .result) (replicate 224 0) (fits7 at-packed-size)
 
 pack-values-requires : tie.Need-pack-values-requires
 pack-values-requires c κs =
-    let start = c .before .before .before .before .before .before .before in
     let at-packed-size = c .before .before in
-    let packed-size = c .before .before .packed-size in (
+    let start = at-packed-size .before .before .before .before .before in (
       start .pre .1 .ranged,
-      sym (part-length (packed-size .result) (replicate 224 0) (fits7 at-packed-size))
-          ∙ packed-size .ensures
+      sym (part-length (at-packed-size .packed-size .result) (replicate 224 0) (fits7 at-packed-size))
+          ∙ at-packed-size .packed-size .ensures
           ∙ ap (λ (n : ℕ). size 7 n) (sym (start .pre .1 .long)),
     )
 
-lent7 : (c : tie.After-pack-values) → Lent (c .before .before .before .packed-size .result) (replicate 224 0) (c .pack-values .last .1 .0)
-lent7 c =
-    let at-packed-size = c .before .before .before in
-    record { fits = fits7 at-packed-size; kept = c .pack-values .kept .1 .0 }
+lent7 : (c : tie.After-pack-values) → Lent (c .before .before .before .packed-size .result) (replicate 224 0)
+    (c .pack-values .last .1 .0)
+lent7 c = record { fits = fits7 (c .before .before .before); kept = c .pack-values .kept .1 .0 }
 
 array-borrow-prefix-exponents : tie.Need-array-borrow-prefix-exponents
-array-borrow-prefix-exponents c =
-    let at-packed-size2 = c .before .before .before in
-    fits3 at-packed-size2
+array-borrow-prefix-exponents c = fits3 (c .before .before .before)
 
 slice-aggregate-pack-exponents : tie.Need-slice-aggregate-pack-exponents
 slice-aggregate-pack-exponents c =
     let at-packed-size2 = c .before .before .before .before in
-    let packed-size2 = c .before .before .before .before .packed-size2 in
-    part-length (packed-size2 .result) (replicate 96 0) (fits3 at-packed-size2)
+    part-length (at-packed-size2 .packed-size2 .result) (replicate 96 0) (fits3 at-packed-size2)
 
 pack-exponents-requires : tie.Need-pack-exponents-requires
 pack-exponents-requires c κs =
-    let start = c .before .before .before .before .before .before .before .before .before .before in
     let at-packed-size2 = c .before .before .before .before in
-    let packed-size2 = c .before .before .before .before .packed-size2 in (
+    let start = at-packed-size2 .before .before .before .before .before .before in (
       start .pre .2 .ranged,
-      sym (part-length (packed-size2 .result) (replicate 96 0) (fits3 at-packed-size2))
-          ∙ packed-size2 .ensures
+      sym (part-length (at-packed-size2 .packed-size2 .result) (replicate 96 0) (fits3 at-packed-size2))
+          ∙ at-packed-size2 .packed-size2 .ensures
           ∙ ap (λ (n : ℕ). size 3 n) (sym (start .pre .2 .long)),
     )
 
-lent3 : (c : tie.After-pack-exponents) → Lent (c .before .before .before .before .before .packed-size2 .result) (replicate 96 0) (c .pack-exponents .last .1 .0)
+lent3 : (c : tie.After-pack-exponents) → Lent (c .before .before .before .before .before .packed-size2 .result)
+    (replicate 96 0) (c .pack-exponents .last .1 .0)
 lent3 c =
     let at-packed-size2 = c .before .before .before .before .before in
     record { fits = fits3 at-packed-size2; kept = c .pack-exponents .kept .1 .0 }
@@ -95,9 +89,7 @@ slice-aggregate-hash4 c =
     lent-length (lent7 at-pack-values)
 
 array-share-prefix-exponents : tie.Need-array-share-prefix-exponents
-array-share-prefix-exponents c =
-    let at-pack-exponents = c .before .before .before in
-    lent-within (lent3 at-pack-exponents)
+array-share-prefix-exponents c = lent-within (lent3 (c .before .before .before))
 
 slice-aggregate-hash4-2 : tie.Need-slice-aggregate-hash4-2
 slice-aggregate-hash4-2 c =
@@ -116,18 +108,22 @@ same-length c = search needs
 returns : tie.Need-returns
 unfolding string1
 returns c =
-    let start = c .before .before .before .before .before .before .before .before .before .before .before .before .before .before .before .before .before .before .before .before in
-    let at-pack-values = c .before .before .before .before .before .before .before .before .before .before .before .before in
-    let at-pack-exponents = c .before .before .before .before .before .before .before .before .before in
-    let pack-values = c .before .before .before .before .before .before .before .before .before .before .before .before .pack-values in
-    let pack-exponents = c .before .before .before .before .before .before .before .before .before .pack-exponents in
-    let round-number = c .before .before .before .before .before .before .before .round-number in
-    let hash4 = c .before .before .hash4 in
+    let at-hash4 = c .before .before in
+    let at-round-number = at-hash4 .before .before .before .before .before in
+    let at-pack-exponents = at-round-number .before .before in
+    let at-pack-values = at-pack-exponents .before .before .before in
+    let start = at-pack-values .before .before .before .before .before .before .before .before in
     let a = start .args in
-    let values = lent-part (lent7 at-pack-values) ∙ pack-values .ensures in
-    let exponents = lent-part (lent3 at-pack-exponents) ∙ pack-exponents .ensures in
-    let number = round-number .ensures in
-    hashed (a .p) (hash4 .ensures) (λ i. 1 ∷ values i ++ exponents i ++ a .salt .now ++ number i) (start .pre .3)
+    let values = lent-part (lent7 at-pack-values) ∙ at-pack-values .pack-values .ensures in
+    let exponents = lent-part (lent3 at-pack-exponents) ∙ at-pack-exponents .pack-exponents .ensures in
+    let number = at-round-number .round-number .ensures in
+    hashed (a .p) (at-hash4 .hash4 .ensures) (λ i. 1 ∷ values i ++ exponents i ++ a .salt .now ++ number i)
+    (start .pre .3)
 
 pub commit-mask-spec : {M : Type 1} → statement M
-commit-mask-spec = tie.close (tie.spec packed-size-requires packed-size-requires-2 array-borrow-prefix-values slice-aggregate-pack-values pack-values-requires array-borrow-prefix-exponents slice-aggregate-pack-exponents pack-exponents-requires round-number-requires array-share-prefix-values slice-aggregate-hash4 array-share-prefix-exponents slice-aggregate-hash4-2 slice-aggregate-hash4-3 hash4-requires same-length returns)
+commit-mask-spec =
+    tie.close
+    (tie.spec packed-size-requires packed-size-requires-2 array-borrow-prefix-values slice-aggregate-pack-values
+    pack-values-requires array-borrow-prefix-exponents slice-aggregate-pack-exponents pack-exponents-requires
+    round-number-requires array-share-prefix-values slice-aggregate-hash4 array-share-prefix-exponents
+    slice-aggregate-hash4-2 slice-aggregate-hash4-3 hash4-requires same-length returns)

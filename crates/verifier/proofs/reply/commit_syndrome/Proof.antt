@@ -31,30 +31,26 @@ slice-aggregate-pack-values c = part-length (c .before .packed-size .result) (re
 
 pack-values-requires : tie.Need-pack-values-requires
 pack-values-requires c κs =
-    let start = c .before .before .before .before .before .before .before in (
+    let at-packed-size = c .before in
+    let start = at-packed-size .before .before .before .before .before .before in (
       start .pre .1 .ranged,
-      sym (part-length (c .before .packed-size .result) (replicate 224 0) (fits (c .before)))
-          ∙ c .before .packed-size .ensures
+      sym (part-length (at-packed-size .packed-size .result) (replicate 224 0) (fits (at-packed-size)))
+          ∙ at-packed-size .packed-size .ensures
           ∙ ap (λ (n : ℕ). size 7 n) (sym (start .pre .1 .long)),
     )
 
-lent : (c : tie.After-pack-values) → Lent (c .before .before .packed-size .result) (replicate 224 0) (c .pack-values .last .1 .0)
-lent c =
-    let at-packed-size = c .before .before in
-    record { fits = fits at-packed-size; kept = c .pack-values .kept .1 .0 }
+lent : (c : tie.After-pack-values) → Lent (c .before .before .packed-size .result) (replicate 224 0)
+    (c .pack-values .last .1 .0)
+lent c = record { fits = fits (c .before .before); kept = c .pack-values .kept .1 .0 }
 
 round-number-requires : tie.Need-round-number-requires
 round-number-requires c κs = search needs
 
 array-share-prefix-values : tie.Need-array-share-prefix-values
-array-share-prefix-values c =
-    let at-pack-values = c .before .before in
-    lent-within (lent at-pack-values)
+array-share-prefix-values c = lent-within (lent (c .before .before))
 
 slice-aggregate-hash4 : tie.Need-slice-aggregate-hash4
-slice-aggregate-hash4 c =
-    let at-pack-values = c .before .before .before in
-    lent-length (lent at-pack-values)
+slice-aggregate-hash4 c = lent-length (lent (c .before .before .before))
 
 slice-aggregate-hash4-2 : tie.Need-slice-aggregate-hash4-2
 slice-aggregate-hash4-2 c = search needs
@@ -67,15 +63,19 @@ same-length c = search needs
 
 returns : tie.Need-returns
 returns c =
-    let start = c .before .before .before .before .before .before .before .before .before .before .before .before .before .before .before .before in
-    let at-pack-values = c .before .before .before .before .before .before .before .before in
-    let pack-values = c .before .before .before .before .before .before .before .before .pack-values in
-    let round-number = c .before .before .before .before .before .before .round-number in
-    let hash4 = c .before .before .hash4 in
+    let at-hash4 = c .before .before in
+    let at-round-number = at-hash4 .before .before .before .before in
+    let at-pack-values = at-round-number .before .before in
+    let start = at-pack-values .before .before .before .before .before .before .before .before in
     let a = start .args in
-    let values = lent-part (lent at-pack-values) ∙ pack-values .ensures in
-    let number = round-number .ensures in
-    hashed (a .p) (hash4 .ensures) (λ i. 0 ∷ values i ++ a .exponents .now ++ a .salt .now ++ number i) (start .pre .2)
+    let values = lent-part (lent at-pack-values) ∙ at-pack-values .pack-values .ensures in
+    let number = at-round-number .round-number .ensures in
+    hashed (a .p) (at-hash4 .hash4 .ensures) (λ i. 0 ∷ values i ++ a .exponents .now ++ a .salt .now ++ number i)
+    (start .pre .2)
 
 pub commit-syndrome-spec : {M : Type 1} → statement M
-commit-syndrome-spec = tie.close (tie.spec sub-packed-size packed-size-requires array-borrow-prefix-values slice-aggregate-pack-values pack-values-requires round-number-requires array-share-prefix-values slice-aggregate-hash4 slice-aggregate-hash4-2 hash4-requires same-length returns)
+commit-syndrome-spec =
+    tie.close
+    (tie.spec sub-packed-size packed-size-requires array-borrow-prefix-values slice-aggregate-pack-values
+    pack-values-requires round-number-requires array-share-prefix-values slice-aggregate-hash4 slice-aggregate-hash4-2
+    hash4-requires same-length returns)

@@ -17,6 +17,13 @@ use Rattle.verifier.proofs.Vectors.{made}
 use Rattle.verifier.proofs.reply.reply_syndrome.Statement.{statement}
 use Rattle.verifier.proofs.reply.reply_syndrome.Tie as tie
 
+-- the entry of the function, from its places
+abbrev entry-scale : tie.After-scale → tie.Start
+entry-scale c = c .before .before .before .before .before .before .before
+
+abbrev entry-syndrome : tie.After-syndrome → tie.Start
+entry-syndrome c = entry-scale (c .before .before .before .before)
+
 sub-m : tie.Need-sub-m
 sub-m c = search needs
 
@@ -39,48 +46,40 @@ scale-requires c κs =
       ys .ranged,
     )
 
-abbrev entry-scale : tie.After-scale → tie.Start
-entry-scale c = c .before .before .before .before .before .before .before
-
 scaled-lent : (c : tie.After-scale) → Lent (entry-scale c .args .p .n) (replicate 256 0) (c .scale .last .1 .1 .0)
-scaled-lent c =
-    let start = c .before .before .before .before .before .before .before in
-    record { fits = start .pre .0 .0 .n-fits; kept = c .scale .kept .1 .1 .0 }
+scaled-lent c = record { fits = entry-scale c .pre .0 .0 .n-fits; kept = c .scale .kept .1 .1 .0 }
 
 array-share-prefix-scaled : tie.Need-array-share-prefix-scaled
 array-share-prefix-scaled c = lent-within (scaled-lent (c .before))
 
 slice-aggregate-syndrome : tie.Need-slice-aggregate-syndrome
-slice-aggregate-syndrome c =
-    let at-scale = c .before .before in
-    lent-length (scaled-lent at-scale)
+slice-aggregate-syndrome c = lent-length (scaled-lent (c .before .before))
 
 -- n - k places fit the array
 fits : (c : tie.Start) → c .args .p .n - c .args .p .k ≤ 256
 fits c = omega (arith, c .pre .0 .0 .n-fits)
 
 array-borrow-prefix-product : tie.Need-array-borrow-prefix-product
-array-borrow-prefix-product c =
-    let start = c .before .before .before .before .before .before .before .before .before in
-    fits start
+array-borrow-prefix-product c = fits (entry-scale (c .before .before))
 
 slice-aggregate-syndrome-2 : tie.Need-slice-aggregate-syndrome-2
 slice-aggregate-syndrome-2 c =
-    let start = c .before .before .before .before .before .before .before .before .before .before in
+    let start = entry-scale (c .before .before .before) in
     part-length (start .args .p .n - start .args .p .k) (replicate 256 0) (fits start)
 
 -- the scaled values are a vector
 scaled-vector : (c : tie.After-scale) → Vector 127 (entry-scale c .args .p .n) (c .scale .last .1 .1 .0)
 scaled-vector c =
-    let start = c .before .before .before .before .before .before .before in
+    let start = entry-scale c in
     let a = start .args in
     made 127 (a .p .n) (c .scale .ensures)
-    (length-scaled (a .es .now) (a .ys .now) (a .p .n) (start .pre .1 .0 .long) (start .pre .1 .1 .long)) (below-scaled (a .es .now) (a .ys .now))
+    (length-scaled (a .es .now) (a .ys .now) (a .p .n) (start .pre .1 .0 .long) (start .pre .1 .1 .long))
+    (below-scaled (a .es .now) (a .ys .now))
 
 syndrome-requires : tie.Need-syndrome-requires
 syndrome-requires c κs =
-    let start = c .before .before .before .before .before .before .before .before .before .before in
     let at-scale = c .before .before .before in
+    let start = entry-scale at-scale in
     let p = start .args .p in
     let m = part-length (p .n - p .k) (replicate 256 0) (fits start) in
     let long = ap length (lent-part (scaled-lent at-scale)) ∙ scaled-vector at-scale .long in (
@@ -88,35 +87,30 @@ syndrome-requires c κs =
       start .pre .0 .1 .long ∙ mul-comm (p .n - p .k) (p .k) ∙ ap (λ (x : ℕ). p .k * x) m,
       omega (arith, long, start .pre .0 .0 .n-fits),
       start .pre .0 .1 .ranged,
-      subst (λ (xs : List ℕ). T (allBelow 127 xs)) (sym (lent-part (scaled-lent at-scale))) (scaled-vector at-scale .ranged),
+      subst (λ (xs : List ℕ). T (allBelow 127 xs)) (sym (lent-part (scaled-lent at-scale)))
+          (scaled-vector at-scale .ranged),
     )
 
-abbrev entry-syndrome : tie.After-syndrome → tie.Start
-entry-syndrome c = c .before .before .before .before .before .before .before .before .before .before .before
-
-product-lent : (c : tie.After-syndrome) → Lent (entry-syndrome c .args .p .n - entry-syndrome c .args .p .k) (replicate 256 0) (c .syndrome .last .1 .1 .1 .0)
-product-lent c =
-    let start = c .before .before .before .before .before .before .before .before .before .before .before in
-    record { fits = fits start; kept = c .syndrome .kept .1 .1 .1 .0 }
+product-lent : (c : tie.After-syndrome) → Lent (entry-syndrome c .args .p .n - entry-syndrome c .args .p .k)
+    (replicate 256 0) (c .syndrome .last .1 .1 .1 .0)
+product-lent c = record { fits = fits (entry-syndrome c); kept = c .syndrome .kept .1 .1 .1 .0 }
 
 array-share-prefix-product : tie.Need-array-share-prefix-product
 array-share-prefix-product c = lent-within (product-lent (c .before))
 
 slice-aggregate-subtract : tie.Need-slice-aggregate-subtract
-slice-aggregate-subtract c =
-    let at-syndrome = c .before .before in
-    lent-length (product-lent at-syndrome)
+slice-aggregate-subtract c = lent-length (product-lent (c .before .before))
 
 subtract-requires : tie.Need-subtract-requires
 subtract-requires c κs =
-    let start = c .before .before .before .before .before .before .before .before .before .before .before .before .before .before in
     let at-syndrome = c .before .before .before in
-    let at-scale = c .before .before .before .before .before .before .before in
-    let syndrome = c .before .before .before .syndrome in
+    let at-scale = at-syndrome .before .before .before .before in
+    let start = entry-scale at-scale in
     let p = start .args .p in
     let m = lent-length (product-lent at-syndrome) in
-    let product = made 127 (p .n - p .k) (lent-part (product-lent at-syndrome) ∙ syndrome .ensures)
-    (length-syndrome (p .k) (start .args .vs .now) _ ∙ ap (λ (x : ℕ). x - p .k) (ap length (lent-part (scaled-lent at-scale)) ∙ scaled-vector at-scale .long))
+    let product = made 127 (p .n - p .k) (lent-part (product-lent at-syndrome) ∙ at-syndrome .syndrome .ensures)
+    (length-syndrome (p .k) (start .args .vs .now) _ ∙ ap (λ (x : ℕ). x - p .k)
+    (ap length (lent-part (scaled-lent at-scale)) ∙ scaled-vector at-scale .long))
     (below-syndrome (p .k) (start .args .vs .now) _) in (
       start .pre .0 .3,
       start .pre .1 .2 ∙ m,
@@ -130,16 +124,19 @@ same-length c = search needs
 
 returns : tie.Need-returns
 returns c =
-    let start = c .before .before .before .before .before .before .before .before .before .before .before .before .before .before .before .before .before in
-    let at-scale = c .before .before .before .before .before .before .before .before .before .before in
-    let at-syndrome = c .before .before .before .before .before .before in
-    let scale = c .before .before .before .before .before .before .before .before .before .before .scale in
-    let syndrome-call = c .before .before .before .before .before .before .syndrome in
-    let subtract = c .before .before .subtract in
+    let at-subtract = c .before .before in
+    let at-syndrome = at-subtract .before .before .before .before in
+    let at-scale = at-syndrome .before .before .before .before in
+    let start = entry-scale at-scale in
     let a = start .args in
-    let scaling = lent-part (scaled-lent at-scale) ∙ scale .ensures in
-    let product = lent-part (product-lent at-syndrome) ∙ syndrome-call .ensures ∙ ap (λ (x : List ℕ). syndrome (a .p .k) (a .vs .now) x) scaling in
-    subtract .ensures ∙ ap (λ (x : List ℕ). lessTimes (a .beta .0) x (a .s .now)) product
+    let scaling = lent-part (scaled-lent at-scale) ∙ at-scale .scale .ensures in
+    let product = lent-part (product-lent at-syndrome) ∙ at-syndrome .syndrome .ensures ∙ ap
+    (λ (x : List ℕ). syndrome (a .p .k) (a .vs .now) x) scaling in
+    at-subtract .subtract .ensures ∙ ap (λ (x : List ℕ). lessTimes (a .beta .0) x (a .s .now)) product
 
 pub reply-syndrome-spec : {M : Type 1} → statement M
-reply-syndrome-spec = tie.close (tie.spec sub-m array-borrow-prefix-scaled slice-aggregate-scale scale-requires array-share-prefix-scaled slice-aggregate-syndrome array-borrow-prefix-product slice-aggregate-syndrome-2 syndrome-requires array-share-prefix-product slice-aggregate-subtract subtract-requires same-length returns)
+reply-syndrome-spec =
+    tie.close
+    (tie.spec sub-m array-borrow-prefix-scaled slice-aggregate-scale scale-requires array-share-prefix-scaled
+    slice-aggregate-syndrome array-borrow-prefix-product slice-aggregate-syndrome-2 syndrome-requires
+    array-share-prefix-product slice-aggregate-subtract subtract-requires same-length returns)

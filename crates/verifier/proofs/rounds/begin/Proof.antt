@@ -16,8 +16,11 @@ tagged-requires-3 c κs = search needs
 returns : tie.Need-returns
 unfolding string3 string4 string6
 returns c =
-    let tagged = c .before .before .tagged in
-    record { c0 = tagged .ensures; c1 = c .before .tagged2 .ensures; h = c .tagged3 .ensures }
+    let at-tagged2 = c .before in
+    let at-tagged = at-tagged2 .before in
+    record { c0 = at-tagged .tagged .ensures; c1 = at-tagged2 .tagged2 .ensures; h = c .tagged3 .ensures }
 
 pub begin-spec : {M : Type 1} → statement M
-begin-spec = tie.close (tie.spec tagged-requires tagged-requires-2 tagged-requires-3 returns)
+begin-spec =
+    tie.close
+    (tie.spec tagged-requires tagged-requires-2 tagged-requires-3 returns)

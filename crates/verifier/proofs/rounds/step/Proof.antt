@@ -15,19 +15,24 @@ use Rattle.verifier.proofs.Stepping.{step-stops, step-one, step-other}
 use Rattle.verifier.proofs.rounds.step.Statement.{statement}
 use Rattle.verifier.proofs.rounds.step.Tie as tie
 
+-- the entry of the function, from its places
+abbrev entry-reply-size : tie.After-reply-size → tie.Start
+entry-reply-size c = c .before .before .before .before .before
+
+abbrev entry-recompute : tie.After-recompute → tie.Start
+entry-recompute c = entry-reply-size (c .before .before .before)
+
 -- two digests fit the array, and the reply is within the part
 fits : (c : tie.Start) → c .args .p .digest + c .args .p .digest ≤ 128
 fits c = omega (arith, c .pre .0 .0 .digest-fits)
 
-abbrev entry-reply-size : tie.After-reply-size → tie.Start
-entry-reply-size c = c .before .before .before .before .before
+front-within : (d : ℕ) {a b l : ℕ} → a ≡ b → l ≡ b + d → a ≤ l
+front-within d e s = omega arith
 
 within : (c : tie.After-reply-size) → c .reply-size .result ≤ length (entry-reply-size c .args .part .now)
 within c =
-    let start = c .before .before .before .before .before in
-    let sized : length (start .args .part .now) ≡ replySize (start .args .p) (start .args .b) + start .args .p .digest = start .pre .1 .0 in
-    let cut : c .reply-size .result ≡ replySize (start .args .p) (start .args .b) = c .reply-size .ensures in
-    rw (sized, cut) (omega arith)
+    let start = entry-reply-size c in
+    front-within (start .args .p .digest) (c .reply-size .ensures) (start .pre .1 .0)
 
 add-end : tie.Need-add-end
 add-end c =
@@ -41,57 +46,58 @@ slice-aggregate-recompute : tie.Need-slice-aggregate-recompute
 slice-aggregate-recompute c = sym (length-take-le _ _ (within (c .before)))
 
 array-borrow-prefix-out : tie.Need-array-borrow-prefix-out
-array-borrow-prefix-out c =
-    let start = c .before .before .before .before .before .before in
-    fits start
+array-borrow-prefix-out c = fits (entry-reply-size (c .before))
 
 slice-aggregate-recompute-2 : tie.Need-slice-aggregate-recompute-2
 slice-aggregate-recompute-2 c =
-    let start = c .before .before .before .before .before .before .before in
+    let start = entry-reply-size (c .before .before) in
     part-length (start .args .p .digest + start .args .p .digest) (replicate 128 0) (fits start)
 
 recompute-requires : tie.Need-recompute-requires
 recompute-requires c κs =
-    let start = c .before .before .before .before .before .before .before in
     let at-reply-size = c .before .before in
-    let reply-size = c .before .before .reply-size in
+    let start = entry-reply-size at-reply-size in
     let d = start .args .p .digest in
-    let long = part-length (d + d) (replicate 128 0) (fits start) in
-    (start .pre .0, (length-take-le _ _ (within at-reply-size) ∙ reply-size .ensures, omega (arith, long)))
+    let long = part-length (d + d) (replicate 128 0) (fits start) in (
+      start .pre .0,
+      (
+        length-take-le _ _ (within at-reply-size) ∙ at-reply-size .reply-size .ensures,
+        omega
+            (arith, long),
+      ),
+    )
 
-abbrev entry-recompute : tie.After-recompute → tie.Start
-entry-recompute c = c .before .before .before .before .before .before .before .before
-
-lent : (c : tie.After-recompute) → Lent (entry-recompute c .args .p .digest + entry-recompute c .args .p .digest) (replicate 128 0) (c .recompute .last .1 .1 .1 .1 .1 .1 .1 .1 .0)
-lent c =
-    let start = c .before .before .before .before .before .before .before .before in
-    record { fits = fits start; kept = c .recompute .kept .1 .1 .1 .1 .1 .1 .1 .1 .0 }
+lent : (c : tie.After-recompute) → Lent (entry-recompute c .args .p .digest + entry-recompute c .args .p .digest)
+    (replicate 128 0) (c .recompute .last .1 .1 .1 .1 .1 .1 .0)
+lent c = record { fits = fits (entry-recompute c); kept = c .recompute .kept .1 .1 .1 .1 .1 .1 .0 }
 
 -- what was recomputed, at the reply that the definitions cut
-made : (c : tie.After-recompute) → Recomputed (entry-recompute c .args .p) (entry-recompute c .args .vs .now) (entry-recompute c .args .s .now) (entry-recompute c .args .b) (entry-recompute c .args .beta .0) (take (replySize (entry-recompute c .args .p) (entry-recompute c .args .b)) (entry-recompute c .args .part .now)) (entry-recompute c .args .salt .now) (entry-recompute c .args .i) (c .recompute .result) (c .recompute .last .1 .1 .1 .1 .1 .1 .1 .1 .0)
+made : (c : tie.After-recompute) → Recomputed (entry-recompute c .args .p) (entry-recompute c .args .vs .now)
+    (entry-recompute c .args .s .now) (entry-recompute c .args .round .b) (entry-recompute c .args .round .beta .0)
+    (take (replySize (entry-recompute c .args .p) (entry-recompute c .args .round .b))
+    (entry-recompute c .args .part .now)) (entry-recompute c .args .salt .now)
+    (entry-recompute c .args .round .i) (c .recompute .result) (c .recompute .last .1 .1 .1 .1 .1 .1 .0)
 made c =
-    let start = c .before .before .before .before .before .before .before .before in
-    let reply-size = c .before .before .before .reply-size in
+    let at-reply-size = c .before .before .before in
+    let start = entry-reply-size at-reply-size in
     let a = start .args in
-    subst (λ (k : ℕ). Recomputed (a .p) (a .vs .now) (a .s .now) (a .b) (a .beta .0) (take k (a .part .now)) (a .salt .now) (a .i) (c .recompute .result) (c .recompute .last .1 .1 .1 .1 .1 .1 .1 .1 .0))
-    (reply-size .ensures) (c .recompute .ensures)
+    subst (λ (k : ℕ). Recomputed (a .p) (a .vs .now) (a .s .now) (a .round .b) (a .round .beta .0)
+    (take k (a .part .now)) (a .salt .now) (a .round .i) (c .recompute .result)
+    (c .recompute .last .1 .1 .1 .1 .1 .1 .0))
+    (at-reply-size .reply-size .ensures) (c .recompute .ensures)
 
 returns : tie.Need-returns
 returns c =
-    let start = c .before .before .before .before .before .before .before .before .before .before in
     let at-recompute = c .before .before in
+    let start = entry-recompute at-recompute in
     let a = start .args in
-    step-stops (a .p) (a .vs .now) (a .s .now) (a .salt .now) (a .i) (a .beta .0) (a .b) (a .part .now) (made at-recompute) (c .if1 .taken)
+    step-stops (a .part .now) (made at-recompute) (c .if1 .taken)
 
 array-share-prefix-out : tie.Need-array-share-prefix-out
-array-share-prefix-out c =
-    let at-recompute = c .before .before in
-    lent-within (lent at-recompute)
+array-share-prefix-out c = lent-within (lent (c .before .before))
 
 slice-aggregate-made : tie.Need-slice-aggregate-made
-slice-aggregate-made c =
-    let at-recompute = c .before .before .before in
-    lent-length (lent at-recompute)
+slice-aggregate-made c = lent-length (lent (c .before .before .before))
 
 slice-aggregate-given : tie.Need-slice-aggregate-given
 slice-aggregate-given c =
@@ -128,62 +134,76 @@ part-brought-end c = omega arith
 
 absorb-round-requires : tie.Need-absorb-round-requires
 absorb-round-requires c κs =
-    let start = c .before .before .before .before .before .before .before .before .before .before .before .before .before .before .before in
+    let start = entry-recompute (c .before .before .before .before .before .before .before .before) in
     start .pre .1 .1
 
 absorb-round-requires-2 : tie.Need-absorb-round-requires-2
 absorb-round-requires-2 c κs =
-    let start = c .before .before .before .before .before .before .before .before .before .before .before .before .before .before .before in
+    let start = entry-recompute (c .before .before .before .before .before .before .before .before) in
     start .pre .1 .1
 
 -- the three parts as they are lent
 abbrev lent-out : (c : tie.After-recompute) → List ℕ
 lent-out c =
-    let start = c .before .before .before .before .before .before .before .before in
-    take (start .args .p .digest + start .args .p .digest) (c .recompute .last .1 .1 .1 .1 .1 .1 .1 .1 .0 ++ drop (start .args .p .digest + start .args .p .digest) (replicate 128 0))
+    let start = entry-recompute c in
+    take (start .args .p .digest + start .args .p .digest) (c .recompute .last .1 .1 .1 .1 .1 .1 .0 ++ drop
+    (start .args .p .digest + start .args .p .digest) (replicate 128 0))
 
-given : (c : tie.After-recompute) → take (entry-recompute c .args .p .digest) (lent-out c) ≡ take (entry-recompute c .args .p .digest) (c .recompute .last .1 .1 .1 .1 .1 .1 .1 .1 .0)
-given c =
-    let start = c .before .before .before .before .before .before .before .before in
-    ap (take (start .args .p .digest)) (lent-part (lent c))
+given : (c : tie.After-recompute) → take (entry-recompute c .args .p .digest) (lent-out c) ≡ take
+    (entry-recompute c .args .p .digest) (c .recompute .last .1 .1 .1 .1 .1 .1 .0)
+given c = ap (take ((entry-recompute c) .args .p .digest)) (lent-part (lent c))
 
-hashes : (c : tie.After-recompute) → take (length (lent-out c) - entry-recompute c .args .p .digest) (drop (entry-recompute c .args .p .digest) (lent-out c)) ≡ drop (entry-recompute c .args .p .digest) (c .recompute .last .1 .1 .1 .1 .1 .1 .1 .1 .0)
+hashes : (c : tie.After-recompute) → take (length (lent-out c) - entry-recompute c .args .p .digest)
+    (drop (entry-recompute c .args .p .digest) (lent-out c)) ≡ drop (entry-recompute c .args .p .digest)
+    (c .recompute .last .1 .1 .1 .1 .1 .1 .0)
 hashes c =
-    let start = c .before .before .before .before .before .before .before .before in
+    let start = entry-recompute c in
     tail (start .args .p .digest) (lent-out c) ∙ ap (drop (start .args .p .digest)) (lent-part (lent c))
 
-brought : (c : tie.After-reply-size) → take (length (entry-reply-size c .args .part .now) - c .reply-size .result) (drop (c .reply-size .result) (entry-reply-size c .args .part .now)) ≡ drop (replySize (entry-reply-size c .args .p) (entry-reply-size c .args .b)) (entry-reply-size c .args .part .now)
+brought : (c : tie.After-reply-size) → take (length (entry-reply-size c .args .part .now) - c .reply-size .result)
+    (drop (c .reply-size .result) (entry-reply-size c .args .part .now)) ≡ drop
+    (replySize (entry-reply-size c .args .p) (entry-reply-size c .args .round .b))
+    (entry-reply-size c .args .part .now)
 brought c =
-    let start = c .before .before .before .before .before in
-    tail (c .reply-size .result) (start .args .part .now) ∙ ap (λ (k : ℕ). drop k (start .args .part .now)) (c .reply-size .ensures)
+    let start = entry-reply-size c in
+    tail (c .reply-size .result) (start .args .part .now) ∙ ap (λ (k : ℕ). drop k (start .args .part .now))
+    (c .reply-size .ensures)
 
 returns-2 : tie.Need-returns-2
 returns-2 c =
-    let start = c .before .before .before .before .before .before .before .before .before .before .before .before .before .before .before .before in
-    let at-recompute = c .before .before .before .before .before .before .before .before in
-    let at-reply-size = c .before .before .before .before .before .before .before .before .before .before .before in
-    let if1 = c .before .before .before .before .before .before .if1 in
+    let at-if2 = c .before in
+    let at-if1 = at-if2 .before .before .before .before .before .before in
+    let at-recompute = at-if1 .before .before in
+    let at-reply-size = at-recompute .before .before .before in
+    let start = entry-reply-size at-reply-size in
     let a = start .args in
     let took = c .absorb-round .ensures in
-    step-one (a .p) (a .vs .now) (a .s .now) (a .salt .now) (a .i) (a .beta .0) (a .b) (a .part .now) (made at-recompute)
-    (start .pre .0 .0) (if1 .left) (c .before .if2 .taken)
+    step-one (a .part .now) (made at-recompute)
+    (start .pre .0 .0) (at-if1 .if1 .left) (at-if2 .if2 .taken)
     (subst (λ (x : List ℕ). Absorbs (a .sponges .c0) x (c .absorb-round .result .c0)) (brought at-reply-size) (took .0))
     (subst (λ (x : List ℕ). Absorbs (a .sponges .c1) x (c .absorb-round .result .c1)) (given at-recompute) (took .1))
     (subst (λ (x : List ℕ). Absorbs (a .sponges .h) x (c .absorb-round .result .h)) (hashes at-recompute) (took .2))
 
 returns-3 : tie.Need-returns-3
 returns-3 c =
-    let start = c .before .before .before .before .before .before .before .before .before .before .before .before .before .before .before .before in
-    let at-recompute = c .before .before .before .before .before .before .before .before in
-    let at-reply-size = c .before .before .before .before .before .before .before .before .before .before .before in
-    let if1 = c .before .before .before .before .before .before .if1 in
+    let at-if2 = c .before in
+    let at-if1 = at-if2 .before .before .before .before .before .before in
+    let at-recompute = at-if1 .before .before in
+    let at-reply-size = at-recompute .before .before .before in
+    let start = entry-reply-size at-reply-size in
     let a = start .args in
     let took = c .absorb-round2 .ensures in
-    step-other (a .p) (a .vs .now) (a .s .now) (a .salt .now) (a .i) (a .beta .0) (a .b) (a .part .now) (made at-recompute)
-    (start .pre .0 .0) (if1 .left) (c .before .if2 .left)
+    step-other (a .part .now) (made at-recompute)
+    (start .pre .0 .0) (at-if1 .if1 .left) (at-if2 .if2 .left)
     (subst (λ (x : List ℕ). Absorbs (a .sponges .c0) x (c .absorb-round2 .result .c0)) (given at-recompute) (took .0))
-    (subst (λ (x : List ℕ). Absorbs (a .sponges .c1) x (c .absorb-round2 .result .c1)) (brought at-reply-size) (took .1))
+    (subst (λ (x : List ℕ). Absorbs (a .sponges .c1) x (c .absorb-round2 .result .c1)) (brought at-reply-size)
+    (took .1))
     (subst (λ (x : List ℕ). Absorbs (a .sponges .h) x (c .absorb-round2 .result .h)) (hashes at-recompute) (took .2))
 
 pub step-spec : {M : Type 1} → statement M
-step-spec = tie.close (tie.spec add-end reply-size-requires slice-aggregate-recompute array-borrow-prefix-out slice-aggregate-recompute-2 recompute-requires returns array-share-prefix-out slice-aggregate-made slice-aggregate-given sub-h part-h-start part-h-end sub-brought part-brought-start part-brought-end absorb-round-requires absorb-round-requires-2 returns-2 returns-3)
+step-spec =
+    tie.close
+    (tie.spec add-end reply-size-requires slice-aggregate-recompute array-borrow-prefix-out
+    slice-aggregate-recompute-2 recompute-requires returns array-share-prefix-out slice-aggregate-made
+    slice-aggregate-given sub-h part-h-start part-h-end sub-brought part-brought-start part-brought-end
+    absorb-round-requires absorb-round-requires-2 returns-2 returns-3)

@@ -9,15 +9,37 @@ use borrow.Author.Tests.{not-true, not-false}
 use lib.ListN.{length, take, drop, replicate, length-drop}
 use lib.Seq.{length-take-le, take-all}
 use Rattle.outcome.specs.Answer.{firstRefusal}
-use Rattle.scheme.specs.Sign.{firstChallenges, firstDrawn, secondChallenges, secondDrawn, partSize}
+use Rattle.scheme.specs.Sign.{firstChallenges, firstDrawn, secondChallenges, partSize}
 use Rattle.scheme.specs.Verify.{pieceChecks, saltOf, cOf, hOf, roundsOf}
 use Rattle.expand.proofs.Lent.{Lent, part-length, lent-within, lent-length, lent-part}
 use Rattle.packing.specs.Vector.{Vector}
 use Rattle.verifier.proofs.Halves.{tail}
 use Rattle.verifier.proofs.Running.{all-ready}
-use Rattle.verifier.proofs.Pieces.{first-short, first-vector, second-short, second-long, offset-all, rounds-stop, compared}
+use Rattle.verifier.proofs.Pieces.{
+  first-short,
+  second-short,
+  first-vector,
+  Drawn,
+  second-long,
+  offset-all,
+  rounds-stop,
+  compared,
+}
 use Rattle.verifier.proofs.verify.pieces.Statement.{statement}
 use Rattle.verifier.proofs.verify.pieces.Tie as tie
+
+-- the entry of the function, from its places
+abbrev entry-first-challenges : tie.After-first-challenges → tie.Start
+entry-first-challenges c = c .before .before .before .before .before .before .before .before .before
+
+abbrev entry-else1 : tie.Else1 → tie.Start
+entry-else1 c = entry-first-challenges (c .before .before)
+
+abbrev entry-second-challenges : tie.After-second-challenges → tie.Start
+entry-second-challenges c = entry-else1 (c .before .before .before)
+
+abbrev entry-else2 : tie.Else2 → tie.Start
+entry-else2 c = entry-second-challenges (c .before .before)
 
 -- the pieces as they are lent
 abbrev salt : (c : tie.Start) → List ℕ
@@ -30,12 +52,16 @@ abbrev hash : (c : tie.Start) → List ℕ
 hash c = take (3 * c .args .p .digest - 2 * c .args .p .digest) (drop (2 * c .args .p .digest) (c .args .sig .now))
 
 abbrev rounds : (c : tie.Start) → List ℕ
-rounds c = take (length (c .args .sig .now) - 3 * c .args .p .digest) (drop (3 * c .args .p .digest) (c .args .sig .now))
+rounds c = take (length (c .args .sig .now) - 3 * c .args .p .digest)
+    (drop (3 * c .args .p .digest) (c .args .sig .now))
 
 -- they are those of the scheme
 pieces-are : (c : tie.Start) →
-    firstRefusal (pieceChecks (c .args .p) (c .args .vs .now) (c .args .s .now) (salt c) (commitment c) (hash c) (rounds c) (c .args .msg .now)) ≡
-    firstRefusal (pieceChecks (c .args .p) (c .args .vs .now) (c .args .s .now) (saltOf (c .args .p) (c .args .sig .now)) (cOf (c .args .p) (c .args .sig .now)) (hOf (c .args .p) (c .args .sig .now)) (roundsOf (c .args .p) (c .args .sig .now)) (c .args .msg .now))
+    firstRefusal (pieceChecks (c .args .p) (c .args .vs .now) (c .args .s .now) (salt c) (commitment c) (hash c)
+    (rounds c) (c .args .msg .now)) ≡
+    firstRefusal (pieceChecks (c .args .p) (c .args .vs .now) (c .args .s .now)
+    (saltOf (c .args .p) (c .args .sig .now)) (cOf (c .args .p) (c .args .sig .now))
+    (hOf (c .args .p) (c .args .sig .now)) (roundsOf (c .args .p) (c .args .sig .now)) (c .args .msg .now))
 unfolding saltOf cOf hOf roundsOf
 pieces-are c =
     let a = c .args in
@@ -44,15 +70,19 @@ pieces-are c =
     let two : 2 * d - d ≡ d = omega arith in
     let three : 3 * d - 2 * d ≡ d = omega arith in
     let left = tail (3 * d) sig in
-    λ i. firstRefusal (pieceChecks (a .p) (a .vs .now) (a .s .now) (take d sig) (take (two i) (drop d sig)) (take (three i) (drop (2 * d) sig)) (left i) (a .msg .now))
+    λ i. firstRefusal (pieceChecks (a .p) (a .vs .now) (a .s .now) (take d sig) (take (two i) (drop d sig))
+    (take (three i) (drop (2 * d) sig)) (left i) (a .msg .now))
 
 -- the signature's size, and that of its rounds
-sized : (c : tie.Start) → length (c .args .sig .now) ≡ 3 * c .args .p .digest + c .args .p .w * partSize (c .args .p) 1 + (c .args .p .t - c .args .p .w) * partSize (c .args .p) 0
+sized : (c : tie.Start) → length (c .args .sig .now) ≡ 3 * c .args .p .digest + c .args .p .w * partSize (c .args .p)
+    1 + (c .args .p .t - c .args .p .w) * partSize (c .args .p) 0
 sized c = c .pre .3
 
-rounds-long : (c : tie.Start) → length (rounds c) ≡ c .args .p .w * partSize (c .args .p) 1 + (c .args .p .t - c .args .p .w) * partSize (c .args .p) 0
+rounds-long : (c : tie.Start) → length (rounds c) ≡ c .args .p .w * partSize (c .args .p) 1 +
+    (c .args .p .t - c .args .p .w) * partSize (c .args .p) 0
 rounds-long c =
-    ap length (tail (3 * c .args .p .digest) (c .args .sig .now)) ∙ length-drop (3 * c .args .p .digest) (c .args .sig .now) ∙ omega (arith, sized c)
+    ap length (tail (3 * c .args .p .digest) (c .args .sig .now)) ∙ length-drop (3 * c .args .p .digest)
+    (c .args .sig .now) ∙ omega (arith, sized c)
 
 mul-d2 : tie.Need-mul-d2
 mul-d2 c =
@@ -102,108 +132,120 @@ first-challenges-requires c κs =
 
 returns : tie.Need-returns
 returns c =
-    let start = c .before .before .before .before .before .before .before .before .before .before .before in
-    let first-challenges = c .before .before .first-challenges in
+    let at-first-challenges = c .before .before in
+    let start = entry-first-challenges at-first-challenges in
     let a = start .args in
-    first-short (a .p) (a .vs .now) (a .s .now) (salt start) (commitment start) (hash start) (rounds start) (a .msg .now)
-    (sym (first-challenges .ensures .answer) ∙ not-true (first-challenges .result) (c .if1 .taken))
+    let call = at-first-challenges .first-challenges in
+    first-short (a .p) (a .vs .now) (a .s .now) (salt start) (commitment start) (hash start) (rounds start)
+    (a .msg .now)
+    (sym (call .ensures .answer) ∙ not-true (call .result) (c .if1 .taken))
     ∙ pieces-are start
 
-abbrev entry-first-challenges : tie.After-first-challenges → tie.Start
-entry-first-challenges c = c .before .before .before .before .before .before .before .before .before
-
 -- the first challenges
-betas-within : (c : tie.After-first-challenges) → entry-first-challenges c .args .p .t ≤ length (c .first-challenges .last .1 .1 .1 .1 .0)
+betas-within : (c : tie.After-first-challenges) → entry-first-challenges c .args .p .t ≤ length
+    (c .first-challenges .last .1 .1 .1 .1 .0)
 betas-within c =
-    let start = c .before .before .before .before .before .before .before .before .before in
-    rw (c .first-challenges .kept .1 .1 .1 .1 .0) (omega (arith, start .pre .0 .t-fits))
+    rw (c .first-challenges .kept .1 .1 .1 .1 .0) (omega (arith, entry-first-challenges c .pre .0 .t-fits))
 
-abbrev entry-else1 : tie.Else1 → tie.Start
-entry-else1 c = c .before .before .before .before .before .before .before .before .before .before .before
+abbrev betas : tie.Else1 → List ℕ
+betas c =
+    let at-first-challenges = c .before .before in
+    let start = entry-first-challenges at-first-challenges in
+    take (start .args .p .t) (at-first-challenges .first-challenges .last .1 .1 .1 .1 .0)
 
-drawn : (c : tie.Else1) → firstDrawn (entry-else1 c .args .p) (commitment (entry-else1 c)) (salt (entry-else1 c)) (entry-else1 c .args .msg .now) ≡ true
+drawn : (c : tie.Else1) → firstDrawn (entry-else1 c .args .p) (commitment (entry-else1 c)) (salt (entry-else1 c))
+    (entry-else1 c .args .msg .now) ≡ true
 drawn c =
-    let first-challenges = c .before .before .first-challenges in
-    sym (first-challenges .ensures .answer) ∙ not-false (first-challenges .result) (c .if1 .left)
+    let call = c .before .before .first-challenges in
+    sym (call .ensures .answer) ∙ not-false (call .result) (c .if1 .left)
 
-betas-are : (c : tie.Else1) → take (entry-else1 c .args .p .t) (c .before .before .first-challenges .last .1 .1 .1 .1 .0) ≡ firstChallenges (entry-else1 c .args .p) (commitment (entry-else1 c)) (salt (entry-else1 c)) (entry-else1 c .args .msg .now)
+betas-are : (c : tie.Else1) → betas c ≡ firstChallenges (entry-else1 c .args .p) (commitment (entry-else1 c))
+    (salt (entry-else1 c)) (entry-else1 c .args .msg .now)
 betas-are c =
-    let first-challenges = c .before .before .first-challenges in
-    first-challenges .ensures .content (not-false (first-challenges .result) (c .if1 .left))
+    let call = c .before .before .first-challenges in
+    call .ensures .content (not-false (call .result) (c .if1 .left))
 
-betas-vector : (c : tie.Else1) → Vector 127 (entry-else1 c .args .p .t) (take (entry-else1 c .args .p .t) (c .before .before .first-challenges .last .1 .1 .1 .1 .0))
+betas-vector : (c : tie.Else1) → Vector 127 (entry-else1 c .args .p .t) (betas c)
 betas-vector c =
-    let start = c .before .before .before .before .before .before .before .before .before .before .before in
+    let start = entry-else1 c in
     let a = start .args in
-    first-vector (a .p) (a .vs .now) (a .s .now) (salt start) (commitment start) (hash start) (rounds start) (a .msg .now) (drawn c) (betas-are c)
+    first-vector (a .p) (commitment start) (salt start) (a .msg .now) (drawn c) (betas-are c)
 
 array-share-prefix-betas : tie.Need-array-share-prefix-betas
-array-share-prefix-betas c =
-    let at-first-challenges = c .before .before in
-    betas-within at-first-challenges
+array-share-prefix-betas c = betas-within (c .before .before)
 
 slice-aggregate-second-challenges : tie.Need-slice-aggregate-second-challenges
-slice-aggregate-second-challenges c =
-    let at-first-challenges = c .before .before .before in
-    sym (length-take-le _ _ (betas-within at-first-challenges))
+slice-aggregate-second-challenges c = sym (length-take-le _ _ (betas-within (c .before .before .before)))
 
 array-borrow-prefix-bs : tie.Need-array-borrow-prefix-bs
-array-borrow-prefix-bs c =
-    let start = c .before .before .before .before .before .before .before .before .before .before .before .before in
-    start .pre .0 .t-fits
+array-borrow-prefix-bs c = entry-else1 (c .before) .pre .0 .t-fits
 
 slice-aggregate-second-challenges-2 : tie.Need-slice-aggregate-second-challenges-2
 slice-aggregate-second-challenges-2 c =
-    let start = c .before .before .before .before .before .before .before .before .before .before .before .before .before in
+    let start = entry-else1 (c .before .before) in
     part-length (start .args .p .t) (replicate 512 0) (start .pre .0 .t-fits)
 
 second-challenges-requires : tie.Need-second-challenges-requires
 second-challenges-requires c κs =
-    let start = c .before .before .before .before .before .before .before .before .before .before .before .before .before in
     let at-if1 = c .before .before in
-    let betas = betas-vector at-if1 in
-    (start .pre .0, betas .long, betas .ranged, sym (part-length (start .args .p .t) (replicate 512 0) (start .pre .0 .t-fits)))
+    let start = entry-else1 at-if1 in
+    let betas = betas-vector at-if1 in (
+      start .pre .0,
+      betas .long,
+      betas .ranged,
+      sym (part-length (start .args .p .t) (replicate 512 0)
+          (start .pre .0 .t-fits)),
+    )
 
 returns-2 : tie.Need-returns-2
 returns-2 c =
-    let start = c .before .before .before .before .before .before .before .before .before .before .before .before .before .before .before .before in
-    let at-if1 = c .before .before .before .before .before in
-    let second-challenges = c .before .before .second-challenges in
+    let at-second-challenges = c .before .before in
+    let at-if1 = at-second-challenges .before .before .before in
+    let start = entry-else1 at-if1 in
     let a = start .args in
-    second-short (a .p) (a .vs .now) (a .s .now) (salt start) (commitment start) (hash start) (rounds start) (a .msg .now) (drawn at-if1) (betas-are at-if1)
-    (sym (second-challenges .ensures .answer) ∙ not-true (second-challenges .result) (c .if2 .taken))
+    let call = at-second-challenges .second-challenges in
+    second-short (a .p) (a .vs .now) (a .s .now) (salt start) (commitment start) (hash start) (rounds start)
+    (a .msg .now)
+    (drawn at-if1) (betas-are at-if1) (sym (call .ensures .answer) ∙ not-true (call .result) (c .if2 .taken))
     ∙ pieces-are start
 
-abbrev entry-second-challenges : tie.After-second-challenges → tie.Start
-entry-second-challenges c = c .before .before .before .before .before .before .before .before .before .before .before .before .before .before
-
 -- the second challenges
-bs-lent : (c : tie.After-second-challenges) → Lent (entry-second-challenges c .args .p .t) (replicate 512 0) (c .second-challenges .last .1 .1 .1 .1 .1 .1 .0)
+bs-lent : (c : tie.After-second-challenges) → Lent (entry-second-challenges c .args .p .t) (replicate 512 0)
+    (c .second-challenges .last .1 .1 .1 .1 .1 .1 .0)
 bs-lent c =
-    let start = c .before .before .before .before .before .before .before .before .before .before .before .before .before .before in
-    record { fits = start .pre .0 .t-fits; kept = c .second-challenges .kept .1 .1 .1 .1 .1 .1 .0 }
+    record { fits = entry-second-challenges c .pre .0 .t-fits; kept = c .second-challenges .kept .1 .1 .1 .1 .1 .1 .0 }
 
-abbrev entry-else2 : tie.Else2 → tie.Start
-entry-else2 c = c .before .before .before .before .before .before .before .before .before .before .before .before .before .before .before .before
+abbrev first-drawn : tie.Else2 → tie.Else1
+first-drawn c = c .before .before .before .before .before
 
-drawn2 : (c : tie.Else2) → secondDrawn (entry-else2 c .args .p) (commitment (entry-else2 c)) (take (entry-else2 c .args .p .t) (c .before .before .before .before .before .before .before .first-challenges .last .1 .1 .1 .1 .0)) (hash (entry-else2 c)) (salt (entry-else2 c)) (entry-else2 c .args .msg .now) ≡ true
-drawn2 c =
-    let second-challenges = c .before .before .second-challenges in
-    sym (second-challenges .ensures .answer) ∙ not-false (second-challenges .result) (c .if2 .left)
-
-bs-are : (c : tie.Else2) → take (entry-else2 c .args .p .t) (c .before .before .second-challenges .last .1 .1 .1 .1 .1 .1 .0 ++ drop (entry-else2 c .args .p .t) (replicate 512 0)) ≡
-    secondChallenges (entry-else2 c .args .p) (commitment (entry-else2 c)) (firstChallenges (entry-else2 c .args .p) (commitment (entry-else2 c)) (salt (entry-else2 c)) (entry-else2 c .args .msg .now)) (hash (entry-else2 c)) (salt (entry-else2 c)) (entry-else2 c .args .msg .now)
-bs-are c =
-    let start = c .before .before .before .before .before .before .before .before .before .before .before .before .before .before .before .before in
+abbrev bs : tie.Else2 → List ℕ
+bs c =
     let at-second-challenges = c .before .before in
-    let at-if1 = c .before .before .before .before .before in
-    let second-challenges = c .before .before .second-challenges in
+    let start = entry-second-challenges at-second-challenges in
+    let t = start .args .p .t in
+    take t (at-second-challenges .second-challenges .last .1 .1 .1 .1 .1 .1 .0 ++ drop t (replicate 512 0))
+
+challenges : (c : tie.Else2) → Drawn (entry-else2 c .args .p) (salt (entry-else2 c)) (commitment (entry-else2 c))
+    (hash (entry-else2 c)) (entry-else2 c .args .msg .now) (betas (first-drawn c)) (bs c)
+challenges c =
+    let at-second-challenges = c .before .before in
+    let at-if1 = at-second-challenges .before .before .before in
+    let start = entry-else1 at-if1 in
     let a = start .args in
-    let last = second-challenges .last .1 .1 .1 .1 .1 .1 .0 in
+    let call = at-second-challenges .second-challenges in
+    let yields = not-false (call .result) (c .if2 .left) in
     let lent = bs-lent at-second-challenges in
-    let all : take (a .p .t) last ≡ last = take-all (a .p .t) last (omega (arith, lent .kept, part-length (a .p .t) (replicate 512 0) (lent .fits))) in
-    lent-part lent ∙ sym all ∙ second-challenges .ensures .content (not-false (second-challenges .result) (c .if2 .left))
-    ∙ ap (λ (x : List ℕ). secondChallenges (a .p) (commitment start) x (hash start) (salt start) (a .msg .now)) (betas-are at-if1)
+    let last = call .last .1 .1 .1 .1 .1 .1 .0 in
+    let all : take (a .p .t) last ≡ last =
+    take-all (a .p .t) last (omega (arith, lent .kept, part-length (a .p .t) (replicate 512 0) (lent .fits))) in
+    record {
+      first = drawn at-if1;
+      second = sym (call .ensures .answer) ∙ yields;
+      β = betas-are at-if1;
+      b = lent-part lent ∙ sym all ∙ call .ensures .content yields
+          ∙ ap (λ (x : List ℕ). secondChallenges (a .p) (commitment start) x (hash start) (salt start) (a .msg .now))
+          (betas-are at-if1);
+    }
 
 array-share-prefix-betas-2 : tie.Need-array-share-prefix-betas-2
 array-share-prefix-betas-2 c =
@@ -216,9 +258,7 @@ slice-aggregate-run c =
     sym (length-take-le _ _ (betas-within at-first-challenges))
 
 array-share-prefix-bs : tie.Need-array-share-prefix-bs
-array-share-prefix-bs c =
-    let at-second-challenges = c .before .before .before in
-    lent-within (bs-lent at-second-challenges)
+array-share-prefix-bs c = lent-within (bs-lent (c .before .before .before))
 
 slice-aggregate-run-2 : tie.Need-slice-aggregate-run-2
 slice-aggregate-run-2 c =
@@ -226,59 +266,53 @@ slice-aggregate-run-2 c =
     lent-length (bs-lent at-second-challenges)
 
 sub-run : tie.Need-sub-run
-sub-run c =
-    let start = c .before .before .before .before .before .before .before .before .before .before .before .before .before .before .before .before .before .before in
-    omega (arith, sized start)
+sub-run c = omega (arith, sized (entry-else2 (c .before .before)))
 
 part-run-start : tie.Need-part-run-start
-part-run-start c =
-    let start = c .before .before .before .before .before .before .before .before .before .before .before .before .before .before .before .before .before .before in
-    omega (arith, sized start)
+part-run-start c = omega (arith, sized (entry-else2 (c .before .before)))
 
 part-run-end : tie.Need-part-run-end
 part-run-end c = omega arith
 
 run-requires : tie.Need-run-requires
 run-requires c κs =
-    let start = c .before .before .before .before .before .before .before .before .before .before .before .before .before .before .before .before .before .before .before in
-    let at-if1 = c .before .before .before .before .before .before .before .before in
     let at-if2 = c .before .before .before in
-    let a = start .args in (
+    let at-if1 = at-if2 .before .before .before .before .before in
+    let start = entry-else1 at-if1 in (
       (start .pre .0, start .pre .1, start .pre .2),
       (
         betas-vector at-if1,
-        second-long (a .p) (a .vs .now) (a .s .now) (salt start) (commitment start) (hash start) (rounds start) (a .msg .now) (drawn at-if1) (betas-are at-if1) (drawn2 at-if2) (bs-are at-if2) (start .pre .0),
-        offset-all (a .p) (a .vs .now) (a .s .now) (salt start) (commitment start) (hash start) (rounds start) (a .msg .now) (drawn at-if1) (betas-are at-if1) (drawn2 at-if2) (bs-are at-if2) (start .pre .0) (rounds-long start),
+        second-long (challenges at-if2) (start .pre .0),
+        offset-all (challenges at-if2) (start .pre .0) ∙ sym (rounds-long start),
       ),
     )
 
 returns-3 : tie.Need-returns-3
 returns-3 c =
-    let start = c .before .before .before .before .before .before .before .before .before .before .before .before .before .before .before .before .before .before .before .before .before .before in
-    let at-if1 = c .before .before .before .before .before .before .before .before .before .before .before in
-    let at-if2 = c .before .before .before .before .before .before in
-    let run = c .before .before .run in
-    let a = start .args in
-    rounds-stop (a .p) (a .vs .now) (a .s .now) (salt start) (commitment start) (hash start) (rounds start) (a .msg .now) (drawn at-if1) (betas-are at-if1) (drawn2 at-if2) (bs-are at-if2)
-    (run .ensures) (c .if3 .taken)
-    ∙ pieces-are start
+    let at-run = c .before .before in
+    let at-if2 = at-run .before .before .before .before in
+    let start = entry-else2 at-if2 in
+    rounds-stop (challenges at-if2) (at-run .run .ensures) (c .if3 .taken) ∙ pieces-are start
 
 compare-requires : tie.Need-compare-requires
 compare-requires c κs =
-    let start = c .before .before .before .before .before .before .before .before .before .before .before .before .before .before .before .before .before .before .before .before .before .before in
-    let run = c .before .before .run in
-    (start .pre .0, all-ready (run .ensures .holds (c .if3 .left)))
+    let at-run = c .before .before in
+    let start = entry-else2 (at-run .before .before .before .before) in
+    (start .pre .0, all-ready (at-run .run .ensures .holds (c .if3 .left)))
 
 returns-4 : tie.Need-returns-4
 returns-4 c =
-    let start = c .before .before .before .before .before .before .before .before .before .before .before .before .before .before .before .before .before .before .before .before .before .before .before in
-    let at-if1 = c .before .before .before .before .before .before .before .before .before .before .before .before in
-    let at-if2 = c .before .before .before .before .before .before .before in
-    let run = c .before .before .before .run in
-    let a = start .args in
-    compared (a .p) (a .vs .now) (a .s .now) (salt start) (commitment start) (hash start) (rounds start) (a .msg .now) (drawn at-if1) (betas-are at-if1) (drawn2 at-if2) (bs-are at-if2)
-    (run .ensures) (c .before .if3 .left) (c .compare .ensures)
-    ∙ pieces-are start
+    let at-if3 = c .before in
+    let at-run = at-if3 .before .before in
+    let at-if2 = at-run .before .before .before .before in
+    let start = entry-else2 at-if2 in
+    compared (challenges at-if2) (at-run .run .ensures) (at-if3 .if3 .left) (c .compare .ensures) ∙ pieces-are start
 
 pub pieces-spec : {M : Type 1} → statement M
-pieces-spec = tie.close (tie.spec mul-d2 mul-d3 slice-aggregate-salt sub-c part-c-start part-c-end sub-h part-h-start part-h-end slice-aggregate-first-challenges first-challenges-requires returns array-share-prefix-betas slice-aggregate-second-challenges array-borrow-prefix-bs slice-aggregate-second-challenges-2 second-challenges-requires returns-2 array-share-prefix-betas-2 slice-aggregate-run array-share-prefix-bs slice-aggregate-run-2 sub-run part-run-start part-run-end run-requires returns-3 compare-requires returns-4)
+pieces-spec =
+    tie.close
+    (tie.spec mul-d2 mul-d3 slice-aggregate-salt sub-c part-c-start part-c-end sub-h part-h-start part-h-end
+    slice-aggregate-first-challenges first-challenges-requires returns array-share-prefix-betas
+    slice-aggregate-second-challenges array-borrow-prefix-bs slice-aggregate-second-challenges-2
+    second-challenges-requires returns-2 array-share-prefix-betas-2 slice-aggregate-run array-share-prefix-bs
+    slice-aggregate-run-2 sub-run part-run-start part-run-end run-requires returns-3 compare-requires returns-4)
