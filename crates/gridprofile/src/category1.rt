@@ -10,10 +10,8 @@ ghost use Rattle.scheme.specs.Entries.{SamplesMatrix, SamplesExponents, Samples
 ghost use Rattle.scheme.specs.Entries.{SamplesSecondChallenge, MakesKey, Signs, Verifies, VerifiesRound};
 ghost use Rattle.package.specs.Entries.{MakesPackage, MakesFromLine, Loads, LoadsImage};
 
-// The values of V; then lent scratch: V with the rest of its last group, the seeds of all rounds, what is kept of them.
-const MATRIX: usize = (P.n - P.k) * P.k;
-
-const DRAWN_MATRIX: usize = MATRIX + 8;
+// Lent scratch: V with the rest of its last group, the seeds of all rounds, what is kept of them.
+const DRAWN_MATRIX: usize = (P.n - P.k) * P.k + 8;
 
 const SEEDS: usize = P.t * P.seed;
 
@@ -25,7 +23,7 @@ pub extern "C" fn gridprofile_sample_matrix(block: &[u8], out: &mut [u8]) -> u8
     ensures { λ r. ⌜ SamplesMatrix p (now (block .entry)) (now (out .entry)) r (now (out .exit)) ⌝ }
 {
     let mut scratch = [0u8; DRAWN_MATRIX];
-    sampling::entry::sample_into(out, &mut scratch, block, P.matrix, 7, 127, 0, MATRIX)
+    expand::entry::sample_matrix(P, block, &mut scratch, out)
 }
 
 // Exponents: of the key, and e' of a round.
@@ -34,7 +32,7 @@ pub extern "C" fn gridprofile_sample_exponents(block: &[u8], out: &mut [u8]) -> 
     ensures { λ r. ⌜ SamplesExponents p (now (block .entry)) (now (out .entry)) r (now (out .exit)) ⌝ }
 {
     let mut scratch = [0u8; P.n + 8];
-    sampling::entry::sample_into(out, &mut scratch, block, P.exponents, 3, 7, 0, P.n)
+    expand::entry::sample_exponents(P, block, &mut scratch, out)
 }
 
 // The mask values u' of a round.
@@ -43,7 +41,7 @@ pub extern "C" fn gridprofile_sample_mask_values(block: &[u8], out: &mut [u8]) -
     ensures { λ r. ⌜ SamplesMaskValues p (now (block .entry)) (now (out .entry)) r (now (out .exit)) ⌝ }
 {
     let mut scratch = [0u8; P.n + 8];
-    sampling::entry::sample_into(out, &mut scratch, block, P.mask, 7, 127, 0, P.n)
+    expand::entry::sample_mask_values(P, block, &mut scratch, out)
 }
 
 // The first challenges β, 1 to 126.
@@ -52,7 +50,7 @@ pub extern "C" fn gridprofile_sample_first_challenges(block: &[u8], out: &mut [u
     ensures { λ r. ⌜ SamplesFirstChallenges p (now (block .entry)) (now (out .entry)) r (now (out .exit)) ⌝ }
 {
     let mut scratch = [0u8; P.t + 8];
-    sampling::entry::sample_into(out, &mut scratch, block, P.first, 7, 126, 1, P.t)
+    expand::entry::sample_first_challenges(P, block, &mut scratch, out)
 }
 
 // The second challenge: 0 or 1 for each round.
@@ -61,7 +59,7 @@ pub extern "C" fn gridprofile_sample_second_challenge(block: &[u8], out: &mut [u
     ensures { λ r. ⌜ SamplesSecondChallenge p (now (block .entry)) (now (out .entry)) r (now (out .exit)) ⌝ }
 {
     let mut scratch = [0u8; P.t];
-    sampling::entry::shuffle_into(out, &mut scratch, block, P.second, P.w)
+    expand::entry::sample_second_challenge(P, block, &mut scratch, out)
 }
 
 // The public key of a private seed.
