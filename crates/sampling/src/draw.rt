@@ -1,7 +1,7 @@
 // Draws: the fields of a block that are below a limit are kept, in scratch, until there are enough.
 ghost use mathlib.Core.Path.{_≡_};
 ghost use mathlib.Core.List.{[], _∷_, _++_};
-ghost use Prim.Native.Nat.{_+_, _^_, _<_, _≤_};
+ghost use Prim.Native.Nat.{_+_, _*_, _/_, _^_, _<_, _≤_};
 ghost use lib.ListN.{length, take, drop};
 ghost use Rattle.packing.specs.Packing.{number, digits};
 ghost use Rattle.sampling.specs.Sampling.{keep, yield};
@@ -31,15 +31,15 @@ fn keep_one(scratch: &mut [u8], got: usize, x: u8, m: u8, d: u8) -> usize
     got
 }
 
-// Keeps of the n lowest fields of v. Each such function returns how many scratch then has.
-fn keep_some(scratch: &mut [u8], got: usize, v: u64, n: usize, d: Draw) -> usize
-    requires { ⌜ (got + n ≤ length (now scratch)) × (d .width < 64) × (2 ^ d .width + d .added ≤ 256) ⌝ }
+// Keeps of the n lowest fields of v, each of width w. Each such function returns how many scratch then has. The width
+// is an argument beside the draw, so that a caller can write it out.
+fn keep_some(scratch: &mut [u8], got: usize, v: u64, w: usize, n: usize, d: Draw) -> usize
+    requires { ⌜ (got + n ≤ length (now scratch)) × (w < 64) × (2 ^ w + d .added ≤ 256) ⌝ }
     ensures { λ r.
         ⌜ (r ≤ got + n)
         × (take r (now (scratch .exit)) ≡ take got (now (scratch .entry))
-        ++ keep (d .limit) (d .added) (digits (d .width) n v)) ⌝ }
+        ++ keep (d .limit) (d .added) (digits w n v)) ⌝ }
 {
-    let w = d.width;
     let base = packing::pow2(w);
     let mut left = v;
     let mut kept = got;
@@ -53,46 +53,32 @@ fn keep_some(scratch: &mut [u8], got: usize, v: u64, n: usize, d: Draw) -> usize
     kept
 }
 
-// Keeps of the n fields that start at byte `at` and lie in x bytes.
+// Keeps of the whole fields of width w that the x bytes from `at` on have.
 fn keep_bytes(
     scratch: &mut [u8],
     got: usize,
     block: &[u8],
     at: usize,
     x: usize,
-    n: usize,
+    w: usize,
     d: Draw,
 ) -> usize
-    requires { ⌜ (got + n ≤ length (now scratch)) × (at + x ≤ length (now block)) × (x ≤ 8)
-        × (d .width < 64) × (2 ^ d .width + d .added ≤ 256) ⌝ }
+    requires { ⌜ (got + 8 * x / w ≤ length (now scratch)) × (at + x ≤ length (now block)) × (x ≤ 8)
+        × (0 < w) × (w < 64) × (2 ^ w + d .added ≤ 256) ⌝ }
     ensures { λ r.
-        ⌜ (r ≤ got + n)
+        ⌜ (r ≤ got + 8 * x / w)
         × (take r (now (scratch .exit)) ≡ take got (now (scratch .entry))
-        ++ keep (d .limit) (d .added) (digits (d .width) n (number 8 (take x (drop at (now (block .entry))))))) ⌝ }
+        ++ keep (d .limit) (d .added) (digits w (8 * x / w) (number 8 (take x (drop at (now (block .entry))))))) ⌝ }
 {
     let v = packing::gather(block, at, 8, x);
-    keep_some(scratch, got, v, n, d)
-}
-
-// The same draw with its width written out, for a caller that knows it as a constant.
-fn of_width(d: Draw, width: usize) -> Draw
-    requires { ⌜ d .width ≡ width ⌝ }
-    ensures { λ r. ⌜ r ≡ d ⌝ }
-{
-    Draw {
-        width: width,
-        limit: d.limit,
-        added: d.added,
-        count: d.count,
-        bytes: d.bytes,
-    }
+    keep_some(scratch, got, v, w, 8 * x / w, d)
 }
 
 // A group: `width` bytes, which are eight fields. The widths in use are named, so that each has a loop with its
 // constants.
 fn keep_group(scratch: &mut [u8], got: usize, block: &[u8], at: usize, d: Draw) -> usize
-    requires { ⌜ (got + 8 ≤ length (now scratch)) × (at + d .width ≤ length (now block)) × (d .width ≤ 8)
-        × (2 ^ d .width + d .added ≤ 256) ⌝ }
+    requires { ⌜ (got + 8 ≤ length (now scratch)) × (at + d .width ≤ length (now block)) × (0 < d .width)
+        × (d .width ≤ 8) × (2 ^ d .width + d .added ≤ 256) ⌝ }
     ensures { λ r.
         ⌜ (r ≤ got + 8)
         × (take r (now (scratch .exit)) ≡ take got (now (scratch .entry))
@@ -101,12 +87,12 @@ fn keep_group(scratch: &mut [u8], got: usize, block: &[u8], at: usize, d: Draw) 
 {
     let w = d.width;
     if w == 7 {
-        return keep_bytes(scratch, got, block, at, 7, 8, of_width(d, 7));
+        return keep_bytes(scratch, got, block, at, 7, 7, d);
     }
     if w == 3 {
-        return keep_bytes(scratch, got, block, at, 3, 8, of_width(d, 3));
+        return keep_bytes(scratch, got, block, at, 3, 3, d);
     }
-    keep_bytes(scratch, got, block, at, w, 8, d)
+    keep_bytes(scratch, got, block, at, w, w, d)
 }
 
 // Keeps of the whole fields in the bytes from `at` on, which are fewer than a group.
@@ -119,8 +105,7 @@ fn keep_tail(scratch: &mut [u8], got: usize, block: &[u8], at: usize, d: Draw) -
         ++ yield (d .width) (d .limit) (d .added) (drop at (now (block .entry)))) ⌝ }
 {
     let x = block.len() - at;
-    let n = 8 * x / d.width;
-    keep_bytes(scratch, got, block, at, x, n, d)
+    keep_bytes(scratch, got, block, at, x, d.width, d)
 }
 
 // Makes a draw. Returns how many scratch has: `count` or more, at most 7 more, exactly where the block yields enough.

@@ -13,6 +13,12 @@ gather-requires c κs = (
   below-test (below-index 256 (c .before .before .args .block .now) (λ i _. c .shared-slice-known .given i .fits)),
 )
 
+mul-keep-some : tie.Need-mul-keep-some
+mul-keep-some c = search needs
+
+div-keep-some : tie.Need-div-keep-some
+div-keep-some c = search needs
+
 keep-some-requires : tie.Need-keep-some-requires
 keep-some-requires c κs = search needs
 
@@ -26,4 +32,4 @@ returns c =
     (kept .ensures .0, rw (read .gather .ensures) at (kept .ensures .1))
 
 pub keep-bytes-spec : {M : Type 1} → statement M
-keep-bytes-spec = tie.close (tie.spec gather-requires keep-some-requires same-length returns)
+keep-bytes-spec = tie.close (tie.spec gather-requires mul-keep-some div-keep-some keep-some-requires same-length returns)

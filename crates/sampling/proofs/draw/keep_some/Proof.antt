@@ -15,15 +15,15 @@ use Rattle.sampling.proofs.draw.keep_some.Statement.{statement}
 use Rattle.sampling.proofs.draw.keep_some.Tie as tie
 
 abbrev Inv-loop : tie.InvT-loop
-Inv-loop scratch₀ got v n d w base left₀ kept₀ i₀ scratch left kept i =
+Inv-loop scratch₀ got v w n d base left₀ kept₀ i₀ scratch left kept i =
     (i ≤ n) ×
     (kept ≤ got + i) ×
     (length scratch ≡ length scratch₀) ×
-    (take kept scratch ++ keep (d .limit) (d .added) (digits (d .width) (n - i) left) ≡
-    take got scratch₀ ++ keep (d .limit) (d .added) (digits (d .width) n v))
+    (take kept scratch ++ keep (d .limit) (d .added) (digits w (n - i) left) ≡
+    take got scratch₀ ++ keep (d .limit) (d .added) (digits w n v))
 
 abbrev μ-loop : tie.MeasureT-loop
-μ-loop scratch₀ got v n d w base left₀ kept₀ i₀ scratch left kept i = n - i
+μ-loop scratch₀ got v w n d base left₀ kept₀ i₀ scratch left kept i = n - i
 
 pow2-requires : tie.Need-pow2-requires Inv-loop μ-loop
 pow2-requires c κs = search needs
@@ -32,19 +32,19 @@ loop-holds : tie.Need-loop-holds Inv-loop μ-loop
 loop-holds c = (omega arith, omega arith, refl, rw sub-zero)
 
 rem-x : tie.Need-rem-x Inv-loop μ-loop
-rem-x c = omega (arith, pow-pos (c .before .before .before .before .args .d .width))
+rem-x c = omega (arith, pow-pos (c .before .before .before .before .args .w))
 
 -- a field is below 2 ^ w
 cast-x : tie.Need-cast-x Inv-loop μ-loop
 cast-x c =
     let base = c .before .before .pow2 .result in
-    let some : 0 < base = omega (arith, pow-pos (c .before .before .before .before .args .d .width)) in
+    let some : 0 < base = omega (arith, pow-pos (c .before .before .before .before .args .w)) in
     omega (arith, mod-lt (c .before .loop .left) some)
 
 keep-one-requires : tie.Need-keep-one-requires Inv-loop μ-loop
 keep-one-requires c κs =
     let base = c .before .before .before .pow2 .result in
-    let some : 0 < base = omega (arith, pow-pos (c .before .before .before .before .before .args .d .width)) in
+    let some : 0 < base = omega (arith, pow-pos (c .before .before .before .before .before .args .w)) in
     omega (arith, mod-lt (c .before .before .loop .left) some)
 
 shr-left : tie.Need-shr-left Inv-loop μ-loop
@@ -65,13 +65,13 @@ loop-again c =
     let d = a .d in
     let front = take (now .kept) (now .scratch) in
     let field :
-    take (kept .result) (kept .last .0) ≡ front ++ keep (d .limit) (d .added) ((now .left % 2 ^ d .width) ∷ []) =
+    take (kept .result) (kept .last .0) ≡ front ++ keep (d .limit) (d .added) ((now .left % 2 ^ a .w) ∷ []) =
     rw (turn .before .pow2 .ensures) at (kept .ensures .1)
     in (
       omega arith,
       omega arith,
       omega (arith, kept .kept),
-      kept-more (d .limit) (d .added) (d .width) (a .n) (now .i) (now .left) front _ (omega arith) field ∙ now .inv .3,
+      kept-more (d .limit) (d .added) (a .w) (a .n) (now .i) (now .left) front _ (omega arith) field ∙ now .inv .3,
     )
 
 same-length : tie.Need-same-length Inv-loop μ-loop
@@ -84,7 +84,7 @@ returns c =
     let d = a .d in (
       omega arith,
       sym
-          (kept-all (d .limit) (d .added) (d .width) (a .n) (now .i) (now .left) (take (now .kept) (now .scratch))
+          (kept-all (d .limit) (d .added) (a .w) (a .n) (now .i) (now .left) (take (now .kept) (now .scratch))
           (c .loop-test .left)) ∙
           now .inv .3,
     )

@@ -11,15 +11,9 @@ use Rattle.sampling.proofs.draw.keep_tail.Tie as tie
 sub-x : tie.Need-sub-x
 sub-x c = search needs
 
-mul-n : tie.Need-mul-n
-mul-n c = omega arith
-
-div-n : tie.Need-div-n
-div-n c = omega arith
-
 keep-bytes-requires : tie.Need-keep-bytes-requires
 keep-bytes-requires c κs =
-    let a = c .before .before .before .before .args in
+    let a = c .before .before .before .args in
     let few = rest-few (a .d .width) (length (a .block .now) - a .at) (omega arith) in
     omega arith
 
@@ -29,7 +23,7 @@ same-length c = search needs
 returns : tie.Need-returns
 returns c =
     let kept = c .before .before .keep-bytes in
-    let a = c .before .before .before .before .before .before .before .args in
+    let a = c .before .before .before .before .before .before .args in
     let d = a .d in
     let few = rest-few (d .width) (length (a .block .now) - a .at) (omega arith) in (
       omega arith,
@@ -41,8 +35,6 @@ keep-tail-spec =
     tie.close
     (tie.spec
     sub-x
-    mul-n
-    div-n
     keep-bytes-requires
     same-length
     returns)
