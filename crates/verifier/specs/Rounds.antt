@@ -1,5 +1,5 @@
--- The rounds of a signature in three sponges: what they take in of one round and of all, and how c and h are compared with
--- what they give. The rounds themselves are those of the scheme (scheme/specs/Verify).
+-- The rounds of a signature in three sponges: what they take in of one round and of all, and how c and h are compared
+-- with what they give. The rounds themselves are those of the scheme (scheme/specs/Verify).
 -- Assumes nothing.
 use mathlib.Core.Path.{_≡_}
 use mathlib.Core.List.{List}
@@ -44,8 +44,8 @@ pub record Stepped
 pub record Ran (p : Params) (vs s salt rounds β b : List ℕ) (r : Rounds) : Type 0 where
   pub answer : r .answer ≡ firstRefusal (flat (checksAt p vs s salt rounds β b) (p .t))
   pub holds : r .answer ≡ 0
-      → HoldAll (r .sponges) (p .rate) (flat (c0At p vs s salt rounds β b) (p .t)) (flat (c1At p vs s salt rounds β b) (p .t))
-      (flat (hAt p vs s salt rounds β b) (p .t))
+      → HoldAll (r .sponges) (p .rate) (flat (c0At p vs s salt rounds β b) (p .t))
+      (flat (c1At p vs s salt rounds β b) (p .t)) (flat (hAt p vs s salt rounds β b) (p .t))
 
 -- c and h compared with what the sponges give
 pub record Compared (p : Params) (sponges : Sponges) (c h : List ℕ) (r : ℕ) : Type 0 where

@@ -100,11 +100,12 @@ fn round(
     matching: &[u8],
     h: &[u8],
 ) -> u8
-    requires { ⌜ Sound p × Vector 127 (matrixCount p) (now vs) × Vector 127 (p .n - p .k) (now s) × (round .beta .0 < 127) ⌝ }
+    requires { ⌜ Sound p × Vector 127 (matrixCount p) (now vs) × Vector 127 (p .n - p .k) (now s)
+        × (round .beta .0 < 127) ⌝ }
     requires { ⌜ length (now reply) ≡ replySize p (round .b) ⌝ }
     ensures { λ r.
-        ⌜ r ≡ firstRefusal (examineRound p (now (vs .entry)) (now (s .entry)) (now (salt .entry)) (round .i) (round .beta .0)
-        (round .b) (now (reply .entry)) (now (matching .entry)) (now (h .entry))) ⌝ }
+        ⌜ r ≡ firstRefusal (examineRound p (now (vs .entry)) (now (s .entry)) (now (salt .entry)) (round .i)
+        (round .beta .0) (round .b) (now (reply .entry)) (now (matching .entry)) (now (h .entry))) ⌝ }
 {
     let d = p.digest;
     let end = d + d;

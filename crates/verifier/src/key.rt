@@ -11,7 +11,8 @@ ghost use Rattle.scheme.specs.Key.{keySize, keyFields, syndromeOf};
 pub fn syndrome(p: Params, key: &[u8], s: &mut [u8]) -> u8
     requires { ⌜ Sound p × (length (now key) ≡ keySize p) × (length (now s) ≡ p .n - p .k) ⌝ }
     ensures { λ r.
-        ⌜ Answers (keyFields p (now (key .entry))) (syndromeOf p (now (key .entry))) (now (s .entry)) r (now (s .exit)) ⌝ }
+        ⌜ Answers (keyFields p (now (key .entry))) (syndromeOf p (now (key .entry))) (now (s .entry)) r
+        (now (s .exit)) ⌝ }
 {
     let d = p.digest;
     packing::unpack_values(&key[d..], s)

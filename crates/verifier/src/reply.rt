@@ -72,7 +72,9 @@ fn from_mask(p: Params, us: &[u8], es: &[u8], salt: &[u8], round: Round, out: &m
 // Under the second challenge 1: the reply is the round's seed.
 fn from_seed(p: Params, salt: &[u8], round: Round, seed: &[u8], out: &mut [u8]) -> u8
     requires { ⌜ Sound p × (round .beta .0 < 127) × (length (now out) ≡ 2 * p .digest) ⌝ }
-    ensures { λ r. ⌜ Recomputed p [] [] 1 (round .beta .0) (now (seed .entry)) (now (salt .entry)) (round .i) r (now (out .exit)) ⌝ }
+    ensures { λ r.
+        ⌜ Recomputed p [] [] 1 (round .beta .0) (now (seed .entry)) (now (salt .entry)) (round .i) r
+        (now (out .exit)) ⌝ }
 {
     let n = p.n;
     let i = round.i;
@@ -94,7 +96,8 @@ fn reply_syndrome(p: Params, vs: &[u8], s: &[u8], beta: Value, es: &[u8], ys: &[
     requires { ⌜ Vector 7 (p .n) (now es) × Vector 127 (p .n) (now ys) × (length (now out) ≡ p .n - p .k) ⌝ }
     ensures { λ _.
         ⌜ now (out .exit) ≡
-        lessTimes (beta .0) (syndromeOf (p .k) (now (vs .entry)) (scaled (now (es .entry)) (now (ys .entry)))) (now (s .entry)) ⌝ }
+        lessTimes (beta .0) (syndromeOf (p .k) (now (vs .entry)) (scaled (now (es .entry)) (now (ys .entry))))
+        (now (s .entry)) ⌝ }
 {
     let n = p.n;
     let k = p.k;
@@ -122,10 +125,12 @@ fn commit_syndrome(p: Params, xs: &[u8], exponents: &[u8], salt: &[u8], i: usize
 
 // Both digests from y and σ, whose packed forms are the reply's own bytes.
 fn from_fields(p: Params, xs: &[u8], reply: &[u8], salt: &[u8], i: usize, out: &mut [u8])
-    requires { ⌜ Sound p × Vector 127 (p .n - p .k) (now xs) × (valuesSize p ≤ length (now reply)) × (length (now out) ≡ 2 * p .digest) ⌝ }
+    requires { ⌜ Sound p × Vector 127 (p .n - p .k) (now xs) × (valuesSize p ≤ length (now reply))
+        × (length (now out) ≡ 2 * p .digest) ⌝ }
     ensures { λ _.
         ⌜ now (out .exit) ≡
-        digest p (0 ∷ pack 7 (now (xs .entry)) ++ drop (valuesSize p) (now (reply .entry)) ++ now (salt .entry) ++ roundNumber i) ++
+        digest p (0 ∷ pack 7 (now (xs .entry)) ++ drop (valuesSize p) (now (reply .entry)) ++ now (salt .entry) ++
+        roundNumber i) ++
         digest p (2 ∷ take (valuesSize p) (now (reply .entry))) ⌝ }
 {
     let d = p.digest;
@@ -144,11 +149,12 @@ fn from_values(
     reply: &[u8],
     out: &mut [u8],
 ) -> u8
-    requires { ⌜ Sound p × Vector 127 (matrixCount p) (now vs) × Vector 127 (p .n - p .k) (now s) × (round .beta .0 < 127) ⌝ }
+    requires { ⌜ Sound p × Vector 127 (matrixCount p) (now vs) × Vector 127 (p .n - p .k) (now s)
+        × (round .beta .0 < 127) ⌝ }
     requires { ⌜ (length (now reply) ≡ replySize p 0) × (length (now out) ≡ 2 * p .digest) ⌝ }
     ensures { λ r.
-        ⌜ Recomputed p (now (vs .entry)) (now (s .entry)) 0 (round .beta .0) (now (reply .entry)) (now (salt .entry)) (round .i) r
-        (now (out .exit)) ⌝ }
+        ⌜ Recomputed p (now (vs .entry)) (now (s .entry)) 0 (round .beta .0) (now (reply .entry)) (now (salt .entry))
+        (round .i) r (now (out .exit)) ⌝ }
 {
     let n = p.n;
     let m = n - p.k;
@@ -180,11 +186,12 @@ pub fn recompute(
     reply: &[u8],
     out: &mut [u8],
 ) -> u8
-    requires { ⌜ Sound p × Vector 127 (matrixCount p) (now vs) × Vector 127 (p .n - p .k) (now s) × (round .beta .0 < 127) ⌝ }
+    requires { ⌜ Sound p × Vector 127 (matrixCount p) (now vs) × Vector 127 (p .n - p .k) (now s)
+        × (round .beta .0 < 127) ⌝ }
     requires { ⌜ (length (now reply) ≡ replySize p (round .b)) × (length (now out) ≡ 2 * p .digest) ⌝ }
     ensures { λ r.
-        ⌜ Recomputed p (now (vs .entry)) (now (s .entry)) (round .b) (round .beta .0) (now (reply .entry)) (now (salt .entry))
-        (round .i) r (now (out .exit)) ⌝ }
+        ⌜ Recomputed p (now (vs .entry)) (now (s .entry)) (round .b) (round .beta .0) (now (reply .entry))
+        (now (salt .entry)) (round .i) r (now (out .exit)) ⌝ }
 {
     if round.b == 1 {
         from_seed(p, salt, round, reply, out)

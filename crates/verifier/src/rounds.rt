@@ -54,10 +54,11 @@ fn step(
     part: &[u8],
     sponges: Sponges,
 ) -> Rounds
-    requires { ⌜ Sound p × Vector 127 (matrixCount p) (now vs) × Vector 127 (p .n - p .k) (now s) × (round .beta .0 < 127) ⌝ }
+    requires { ⌜ Sound p × Vector 127 (matrixCount p) (now vs) × Vector 127 (p .n - p .k) (now s)
+        × (round .beta .0 < 127) ⌝ }
     requires { ⌜ (length (now part) ≡ partSize p (round .b)) × AllReady sponges ⌝ }
-    ensures { λ r. ⌜ Stepped p (now (vs .entry)) (now (s .entry)) (now (salt .entry)) (round .i) (round .beta .0) (round .b)
-        (now (part .entry)) sponges r ⌝ }
+    ensures { λ r. ⌜ Stepped p (now (vs .entry)) (now (s .entry)) (now (salt .entry)) (round .i) (round .beta .0)
+        (round .b) (now (part .entry)) sponges r ⌝ }
 {
     let d = p.digest;
     let end = d + d;
@@ -112,8 +113,8 @@ pub fn run(
     requires { ⌜ Sound p × Vector 127 (matrixCount p) (now vs) × Vector 127 (p .n - p .k) (now s) ⌝ }
     requires { ⌜ Vector 127 (p .t) (now betas) × (length (now bs) ≡ p .t)
         × (offset p (now bs) (p .t) ≡ length (now rounds)) ⌝ }
-    ensures { λ r. ⌜ Ran p (now (vs .entry)) (now (s .entry)) (now (salt .entry)) (now (rounds .entry)) (now (betas .entry))
-        (now (bs .entry)) r ⌝ }
+    ensures { λ r. ⌜ Ran p (now (vs .entry)) (now (s .entry)) (now (salt .entry)) (now (rounds .entry))
+        (now (betas .entry)) (now (bs .entry)) r ⌝ }
 {
     let t = p.t;
     let mut sponges = begin(p);

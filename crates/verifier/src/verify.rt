@@ -35,9 +35,11 @@ fn sizes(p: Params, key: usize, msg: usize, sig: usize) -> u8
 
 // Under V and s: both draws of challenges, the rounds, then c and h.
 fn pieces(p: Params, vs: &[u8], s: &[u8], msg: &[u8], sig: &[u8]) -> u8
-    requires { ⌜ Sound p × Vector 127 (matrixCount p) (now vs) × Vector 127 (p .n - p .k) (now s) × (length (now sig) ≡ signatureSize p) ⌝ }
+    requires { ⌜ Sound p × Vector 127 (matrixCount p) (now vs) × Vector 127 (p .n - p .k) (now s)
+        × (length (now sig) ≡ signatureSize p) ⌝ }
     ensures { λ r.
-        ⌜ r ≡ firstRefusal (pieceChecks p (now (vs .entry)) (now (s .entry)) (saltOf p (now (sig .entry))) (cOf p (now (sig .entry))) (hOf p (now (sig .entry))) (roundsOf p (now (sig .entry))) (now (msg .entry))) ⌝ }
+        ⌜ r ≡ firstRefusal (pieceChecks p (now (vs .entry)) (now (s .entry)) (saltOf p (now (sig .entry)))
+        (cOf p (now (sig .entry))) (hOf p (now (sig .entry))) (roundsOf p (now (sig .entry))) (now (msg .entry))) ⌝ }
 {
     let t = p.t;
     let d = p.digest;

@@ -176,8 +176,8 @@ b-binary c =
     let a = start .args in
     binary (a .p) (a .i) (a .beta) (a .challenge) (sym (at-numbers .numbers .ensures) ∙ c .if3 .left)
 
-reply-long : (c : tie.Else3) → length (entry-else3 c .args .reply .now) ≡ replySize (entry-else3 c .args .p)
-    (entry-else3 c .args .challenge)
+reply-long : (c : tie.Else3) → length (entry-else3 c .args .reply .now)
+    ≡ replySize (entry-else3 c .args .p) (entry-else3 c .args .challenge)
 reply-long c =
     let at-if1 = c .before .before .before .before .before .before .before in
     let at-sizes = at-if1 .before in
@@ -244,12 +244,14 @@ vs-within c = rw (c .matrix .kept .1 .1 .1 .0) (omega (arith, entry-matrix c .pr
 
 cast-first : tie.Need-cast-first
 cast-first c =
-    let at-if3 = c .before .before .before .before .before .before .before .before .before .before .before .before in
+    let at-if4 = c .before .before .before in
+    let at-if3 = at-if4 .before .before .before .before .before .before .before .before .before in
     omega (arith, β-small at-if3)
 
 cast-b : tie.Need-cast-b
 cast-b c =
-    let at-if3 = c .before .before .before .before .before .before .before .before .before .before .before .before in
+    let at-if4 = c .before .before .before in
+    let at-if3 = at-if4 .before .before .before .before .before .before .before .before .before in
     omega (arith, b-binary at-if3)
 
 slice-reshare-prefix-entries : tie.Need-slice-reshare-prefix-entries
@@ -264,12 +266,16 @@ slice-aggregate-entries c =
 
 array-share-prefix-s : tie.Need-array-share-prefix-s
 array-share-prefix-s c =
-    let at-syndrome = c .before .before .before .before .before .before .before .before .before .before .before .before .before .before .before in
+    let at-if4 = c .before .before in
+    let at-if3 = at-if4 .before .before .before .before .before .before .before .before .before in
+    let at-syndrome = at-if3 .before .before .before .before in
     lent-within (s-lent at-syndrome)
 
 slice-aggregate-syndrome-2 : tie.Need-slice-aggregate-syndrome-2
 slice-aggregate-syndrome-2 c =
-    let at-syndrome = c .before .before .before .before .before .before .before .before .before .before .before .before .before .before .before .before in
+    let at-if4 = c .before .before .before in
+    let at-if3 = at-if4 .before .before .before .before .before .before .before .before .before in
+    let at-syndrome = at-if3 .before .before .before .before in
     lent-length (s-lent at-syndrome)
 
 round-requires : tie.Need-round-requires
@@ -321,8 +327,8 @@ answers c r matching m e =
     let d = s-read at-if2 .0 in
     past-numbers at-if3 _
     (e
-    ∙ (λ j. firstRefusal (examineRound (a .p) (v j) (d j) (a .salt .now) (a .i) (a .beta) (a .challenge)
-    (a .reply .now) (m j) (a .h .now)))
+    ∙ (λ j. firstRefusal (examineRound (a .p) (v j) (d j) (a .salt .now) (a .i) (a .beta) (a .challenge) (a .reply .now)
+    (m j) (a .h .now)))
     ∙ rw (drawn c))
 
 returns-5 : tie.Need-returns-5

@@ -9,14 +9,7 @@ use lib.ListN.{length, take, drop, replicate}
 use lib.Seq.{length-take-le}
 use Rattle.outcome.specs.Lists.{same}
 use Rattle.expand.proofs.Lent.{Lent, part-length, lent-within}
-use Rattle.verifier.proofs.Rounded.{
-  reply-stops,
-  first-part,
-  second-part,
-  first-differs,
-  second-differs,
-  both-agree,
-}
+use Rattle.verifier.proofs.Rounded.{reply-stops, first-part, second-part, first-differs, second-differs, both-agree}
 use Rattle.verifier.proofs.examine.round.Statement.{statement}
 use Rattle.verifier.proofs.examine.round.Tie as tie
 
@@ -61,9 +54,9 @@ returns c =
     reply-stops (start .args .matching .now) (start .args .h .now) (at-recompute .recompute .ensures) (c .if1 .taken)
 
 -- the first digest lies within the array
-within : (c : tie.After-recompute) → entry-recompute c .args .p .digest ≤ length
-    (c .recompute .last .1 .1 .1 .1 .1 .1 .0 ++ drop
-    (entry-recompute c .args .p .digest + entry-recompute c .args .p .digest) (replicate 128 0))
+within : (c : tie.After-recompute) → entry-recompute c .args .p .digest
+    ≤ length (c .recompute .last .1 .1 .1 .1 .1 .1 .0
+    ++ drop (entry-recompute c .args .p .digest + entry-recompute c .args .p .digest) (replicate 128 0))
 within c = omega (arith, lent-within (lent c))
 
 array-share-prefix-out : tie.Need-array-share-prefix-out
@@ -75,8 +68,8 @@ slice-aggregate-equal c = sym (length-take-le _ _ (within (c .before .before .be
 -- the first digest, as it is compared
 first : (c : tie.After-recompute) → take (entry-recompute c .args .p .digest)
     (c .recompute .last .1 .1 .1 .1 .1 .1 .0 ++ drop
-    (entry-recompute c .args .p .digest + entry-recompute c .args .p .digest) (replicate 128 0)) ≡ take
-    (entry-recompute c .args .p .digest) (c .recompute .last .1 .1 .1 .1 .1 .1 .0)
+    (entry-recompute c .args .p .digest + entry-recompute c .args .p .digest) (replicate 128 0))
+    ≡ take (entry-recompute c .args .p .digest) (c .recompute .last .1 .1 .1 .1 .1 .1 .0)
 first c = first-part ((entry-recompute c) .args .p .digest) (lent c)
 
 equal-requires : tie.Need-equal-requires
@@ -91,8 +84,8 @@ returns-2 c =
     let a = start .args in
     first-differs (start .pre .0 .0) (at-recompute .recompute .ensures) (at-if1 .if1 .left) (a .matching .now)
     (a .h .now)
-    (sym (ap (same (a .matching .now)) (first at-recompute)) ∙ sym (at-equal .equal .ensures) ∙ not-true
-    (at-equal .equal .result) (c .if2 .taken))
+    (sym (ap (same (a .matching .now)) (first at-recompute)) ∙ sym (at-equal .equal .ensures)
+    ∙ not-true (at-equal .equal .result) (c .if2 .taken))
 
 sub-equal : tie.Need-sub-equal
 sub-equal c = omega arith
@@ -109,8 +102,8 @@ part-equal-end c =
 second : (c : tie.After-recompute) → take (entry-recompute c .args .p .digest + entry-recompute c .args .p .digest -
     entry-recompute c .args .p .digest) (drop (entry-recompute c .args .p .digest)
     (c .recompute .last .1 .1 .1 .1 .1 .1 .0 ++ drop
-    (entry-recompute c .args .p .digest + entry-recompute c .args .p .digest) (replicate 128 0))) ≡ drop
-    (entry-recompute c .args .p .digest) (c .recompute .last .1 .1 .1 .1 .1 .1 .0)
+    (entry-recompute c .args .p .digest + entry-recompute c .args .p .digest) (replicate 128 0)))
+    ≡ drop (entry-recompute c .args .p .digest) (c .recompute .last .1 .1 .1 .1 .1 .1 .0)
 second c = second-part ((entry-recompute c) .args .p .digest) (lent c)
 
 equal-requires-2 : tie.Need-equal-requires-2
@@ -127,10 +120,10 @@ returns-3 c =
     let a = start .args in
     second-differs (start .pre .0 .0) (at-recompute .recompute .ensures) (at-if1 .if1 .left) (a .matching .now)
     (a .h .now)
-    (sym (ap (same (a .matching .now)) (first at-recompute)) ∙ sym (at-equal .equal .ensures) ∙ not-false
-    (at-equal .equal .result) (at-if2 .if2 .left))
-    (sym (ap (same (a .h .now)) (second at-recompute)) ∙ sym (at-equal2 .equal2 .ensures) ∙ not-true
-    (at-equal2 .equal2 .result) (c .if3 .taken))
+    (sym (ap (same (a .matching .now)) (first at-recompute)) ∙ sym (at-equal .equal .ensures)
+    ∙ not-false (at-equal .equal .result) (at-if2 .if2 .left))
+    (sym (ap (same (a .h .now)) (second at-recompute)) ∙ sym (at-equal2 .equal2 .ensures)
+    ∙ not-true (at-equal2 .equal2 .result) (c .if3 .taken))
 
 returns-4 : tie.Need-returns-4
 returns-4 c =
@@ -142,10 +135,10 @@ returns-4 c =
     let start = entry-recompute at-recompute in
     let a = start .args in
     both-agree (start .pre .0 .0) (at-recompute .recompute .ensures) (at-if1 .if1 .left) (a .matching .now) (a .h .now)
-    (sym (ap (same (a .matching .now)) (first at-recompute)) ∙ sym (at-equal .equal .ensures) ∙ not-false
-    (at-equal .equal .result) (at-if2 .if2 .left))
-    (sym (ap (same (a .h .now)) (second at-recompute)) ∙ sym (at-equal2 .equal2 .ensures) ∙ not-false
-    (at-equal2 .equal2 .result) (c .if3 .left))
+    (sym (ap (same (a .matching .now)) (first at-recompute)) ∙ sym (at-equal .equal .ensures)
+    ∙ not-false (at-equal .equal .result) (at-if2 .if2 .left))
+    (sym (ap (same (a .h .now)) (second at-recompute)) ∙ sym (at-equal2 .equal2 .ensures)
+    ∙ not-false (at-equal2 .equal2 .result) (c .if3 .left))
 
 pub round-spec : {M : Type 1} → statement M
 round-spec =

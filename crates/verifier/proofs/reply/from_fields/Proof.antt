@@ -86,8 +86,10 @@ returns c =
     let first = at-commit-syndrome .commit-syndrome .ensures
     ∙ ap (λ (e : List ℕ). digest (a .p) (0 ∷ pack 7 (a .xs .now) ++ e ++ a .salt .now ++ roundNumber (a .i)))
     (tail (at-packed-size .packed-size .result) reply ∙ ap (λ (k : ℕ). drop k reply) cut) in
-    let second = hashed (a .p) (at-hash1 .hash1 .ensures) (ap (λ (k : ℕ). 2 ∷ take k reply) cut)
-    (rest-long (half at-commit-syndrome)) in
+    let second =
+    hashed (a .p) (at-hash1 .hash1 .ensures) (ap (λ (k : ℕ). 2 ∷ take k reply) cut)
+    (rest-long (half at-commit-syndrome))
+    in
     halves (half at-commit-syndrome) (at-hash1 .hash1 .last .1 .1 .1 .0) (at-hash1 .hash1 .kept .1 .1 .1 .0)
     ∙ (λ i. first i ++ second i)
 

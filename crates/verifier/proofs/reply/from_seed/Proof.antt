@@ -29,8 +29,8 @@ returns c =
     let start = entry-mask-exponents at-mask-exponents in
     let a = start .args in
     short-exponents (a .p) (a .round .beta .0) (a .seed .now) (a .salt .now) (a .round .i)
-    (sym (at-mask-exponents .mask-exponents .ensures .answer) ∙ not-true (at-mask-exponents .mask-exponents .result)
-    (c .if1 .taken))
+    (sym (at-mask-exponents .mask-exponents .ensures .answer)
+    ∙ not-true (at-mask-exponents .mask-exponents .result) (c .if1 .taken))
 
 slice-aggregate-mask-values : tie.Need-slice-aggregate-mask-values
 slice-aggregate-mask-values c = search needs
@@ -46,17 +46,17 @@ returns-2 c =
     let start = entry-mask-exponents at-mask-exponents in
     let a = start .args in
     short-values (a .p) (a .round .beta .0) (a .seed .now) (a .salt .now) (a .round .i)
-    (sym (at-mask-exponents .mask-exponents .ensures .answer) ∙ not-false (at-mask-exponents .mask-exponents .result)
-    (at-if1 .if1 .left))
-    (sym (at-mask-values .mask-values .ensures .answer) ∙ not-true (at-mask-values .mask-values .result)
-    (c .if2 .taken))
+    (sym (at-mask-exponents .mask-exponents .ensures .answer)
+    ∙ not-false (at-mask-exponents .mask-exponents .result) (at-if1 .if1 .left))
+    (sym (at-mask-values .mask-values .ensures .answer)
+    ∙ not-true (at-mask-values .mask-values .result) (c .if2 .taken))
 
 -- the draws lie within their arrays
 us-within : (c : tie.After-mask-values) → entry-mask-values c .args .p .n ≤ length (c .mask-values .last .1 .1 .1 .1 .0)
 us-within c = rw (c .mask-values .kept .1 .1 .1 .1 .0) (omega (arith, entry-mask-values c .pre .0 .n-fits))
 
-es-within : (c : tie.After-mask-exponents) → entry-mask-exponents c .args .p .n ≤ length
-    (c .mask-exponents .last .1 .1 .1 .1 .0)
+es-within : (c : tie.After-mask-exponents) → entry-mask-exponents c .args .p .n
+    ≤ length (c .mask-exponents .last .1 .1 .1 .1 .0)
 es-within c = rw (c .mask-exponents .kept .1 .1 .1 .1 .0) (omega (arith, entry-mask-exponents c .pre .0 .n-fits))
 
 array-share-prefix-us : tie.Need-array-share-prefix-us
@@ -111,8 +111,8 @@ returns-3 c =
     let e = not-false (at-mask-exponents .mask-exponents .result) (at-if1 .if1 .left) in
     let u = not-false (at-mask-values .mask-values .result) (at-if2 .if2 .left) in
     seed-made (a .p) (a .round .beta .0) (a .seed .now) (a .salt .now) (a .round .i)
-    (sym (at-mask-exponents .mask-exponents .ensures .answer) ∙ e) (sym (at-mask-values .mask-values .ensures .answer)
-    ∙ u)
+    (sym (at-mask-exponents .mask-exponents .ensures .answer) ∙ e)
+    (sym (at-mask-values .mask-values .ensures .answer) ∙ u)
     (at-mask-values .mask-values .ensures .content u) (at-mask-exponents .mask-exponents .ensures .content e)
     (at-from-mask .from-mask .ensures)
 

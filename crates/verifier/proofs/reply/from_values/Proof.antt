@@ -70,8 +70,8 @@ slice-aggregate-unpack-values-2 c =
 
 -- what unpacking y answers
 values : (c : tie.After-unpack-values) →
-    Answers (fieldChecks 7 127 (entry-unpack-values c .args .p .n) (take (valuesSize (entry-unpack-values c .args .p))
-    (entry-unpack-values c .args .reply .now)))
+    Answers (fieldChecks 7 127 (entry-unpack-values c .args .p .n)
+    (take (valuesSize (entry-unpack-values c .args .p)) (entry-unpack-values c .args .reply .now)))
     (unpack 7 (entry-unpack-values c .args .p .n) (take (valuesSize (entry-unpack-values c .args .p))
     (entry-unpack-values c .args .reply .now)))
     (take (entry-unpack-values c .args .p .n) (replicate 256 0)) (c .unpack-values .result)
@@ -122,8 +122,8 @@ slice-aggregate-unpack-exponents c =
 exponents : (c : tie.After-unpack-exponents) →
     Answers (fieldChecks 3 7 (entry-unpack-exponents c .args .p .n)
     (drop (valuesSize (entry-unpack-exponents c .args .p)) (entry-unpack-exponents c .args .reply .now)))
-    (unpack 3 (entry-unpack-exponents c .args .p .n) (drop (valuesSize (entry-unpack-exponents c .args .p))
-    (entry-unpack-exponents c .args .reply .now)))
+    (unpack 3 (entry-unpack-exponents c .args .p .n)
+    (drop (valuesSize (entry-unpack-exponents c .args .p)) (entry-unpack-exponents c .args .reply .now)))
     (take (entry-unpack-exponents c .args .p .n) (replicate 256 0)) (c .unpack-exponents .result)
     (c .unpack-exponents .last .1 .0)
 exponents c =
@@ -132,8 +132,8 @@ exponents c =
     let p = start .args .p in
     let reply = start .args .reply .now in
     unpacked 3 7 (p .n) (sym (part-length (p .n) (replicate 256 0) (start .pre .0 .0 .n-fits)))
-    (tail (at-packed-size .packed-size .result) reply ∙ ap (λ (k : ℕ). drop k reply)
-    (at-packed-size .packed-size .ensures))
+    (tail (at-packed-size .packed-size .result) reply
+    ∙ ap (λ (k : ℕ). drop k reply) (at-packed-size .packed-size .ensures))
     (omega (arith, sized start, length-drop (valuesSize p) reply))
     (c .unpack-exponents .ensures)
 
@@ -151,15 +151,17 @@ returns-2 c =
     (values at-unpack-values .answer) (at-if1 .if1 .left) (exponents at-unpack-exponents .answer) (c .if2 .taken)
 
 -- both were read
-ys-read : (c : tie.Else1) → Read 7 127 (entry-else1 c .args .p .n) (take (valuesSize (entry-else1 c .args .p))
-    (entry-else1 c .args .reply .now)) (c .before .before .unpack-values .last .1 .0)
+ys-read : (c : tie.Else1) → Read 7 127 (entry-else1 c .args .p .n)
+    (take (valuesSize (entry-else1 c .args .p)) (entry-else1 c .args .reply .now))
+    (c .before .before .unpack-values .last .1 .0)
 ys-read c =
     let at-unpack-values = c .before .before in
     let start = entry-unpack-values at-unpack-values in
     reads 7 127 (start .args .p .n) (values at-unpack-values) (c .if1 .left)
 
-es-read : (c : tie.Else2) → Read 3 7 (entry-else2 c .args .p .n) (drop (valuesSize (entry-else2 c .args .p))
-    (entry-else2 c .args .reply .now)) (c .before .before .unpack-exponents .last .1 .0)
+es-read : (c : tie.Else2) → Read 3 7 (entry-else2 c .args .p .n)
+    (drop (valuesSize (entry-else2 c .args .p)) (entry-else2 c .args .reply .now))
+    (c .before .before .unpack-exponents .last .1 .0)
 es-read c =
     let at-unpack-exponents = c .before .before in
     let start = entry-unpack-exponents at-unpack-exponents in
@@ -183,12 +185,14 @@ slice-aggregate-reply-syndrome c =
 
 array-share-prefix-ys : tie.Need-array-share-prefix-ys
 array-share-prefix-ys c =
-    let at-unpack-values = c .before .before .before .before .before .before .before .before .before in
+    let at-if1 = c .before .before .before .before .before .before .before in
+    let at-unpack-values = at-if1 .before .before in
     lent-within (ys-lent at-unpack-values)
 
 slice-aggregate-reply-syndrome-2 : tie.Need-slice-aggregate-reply-syndrome-2
 slice-aggregate-reply-syndrome-2 c =
-    let at-unpack-values = c .before .before .before .before .before .before .before .before .before .before in
+    let at-if1 = c .before .before .before .before .before .before .before .before in
+    let at-unpack-values = at-if1 .before .before in
     lent-length (ys-lent at-unpack-values)
 
 array-borrow-prefix-xs : tie.Need-array-borrow-prefix-xs
@@ -215,9 +219,8 @@ reply-syndrome-requires c κs =
       ),
     )
 
-xs-lent : (c : tie.After-reply-syndrome) → Lent
-    (entry-reply-syndrome c .args .p .n - entry-reply-syndrome c .args .p .k) (replicate 256 0)
-    (c .reply-syndrome .last .1 .1 .1 .1 .1 .1 .0)
+xs-lent : (c : tie.After-reply-syndrome) → Lent (entry-reply-syndrome c .args .p .n - entry-reply-syndrome
+    c .args .p .k) (replicate 256 0) (c .reply-syndrome .last .1 .1 .1 .1 .1 .1 .0)
 xs-lent c = record { fits = fits (entry-reply-syndrome c); kept = c .reply-syndrome .kept .1 .1 .1 .1 .1 .1 .0 }
 
 array-share-prefix-xs : tie.Need-array-share-prefix-xs
@@ -226,15 +229,21 @@ array-share-prefix-xs c = lent-within (xs-lent (c .before))
 slice-aggregate-from-fields : tie.Need-slice-aggregate-from-fields
 slice-aggregate-from-fields c = lent-length (xs-lent (c .before .before))
 
+abbrev values-read : tie.After-reply-syndrome → tie.Else1
+values-read c = c .before .before .before .before .before .before .before .before .before .before
+
+abbrev exponents-read : tie.After-reply-syndrome → tie.Else2
+exponents-read c = c .before .before .before .before .before
+
 -- s̃ of what was read
 syndromed : (c : tie.After-reply-syndrome) → take
     (entry-reply-syndrome c .args .p .n - entry-reply-syndrome c .args .p .k)
     (c .reply-syndrome .last .1 .1 .1 .1 .1 .1 .0 ++ drop
     (entry-reply-syndrome c .args .p .n - entry-reply-syndrome c .args .p .k) (replicate 256 0)) ≡
-    lessTimes (entry-reply-syndrome c .args .round .beta .0) (syndrome (entry-reply-syndrome c .args .p .k)
-    (entry-reply-syndrome c .args .vs .now)
-    (scaled (c .before .before .before .before .before .before .before .unpack-exponents .last .1 .0)
-    (c .before .before .before .before .before .before .before .before .before .before .before .before .unpack-values .last .1 .0))) (entry-reply-syndrome c .args .s .now)
+    lessTimes (entry-reply-syndrome c .args .round .beta .0)
+    (syndrome (entry-reply-syndrome c .args .p .k) (entry-reply-syndrome c .args .vs .now)
+    (scaled (exponents-read c .before .before .unpack-exponents .last .1 .0)
+    (values-read c .before .before .unpack-values .last .1 .0))) (entry-reply-syndrome c .args .s .now)
 syndromed c =
     let at-unpack-exponents = c .before .before .before .before .before .before .before in
     let at-unpack-values = at-unpack-exponents .before .before .before .before .before in

@@ -16,7 +16,8 @@ from-values-requires c κs =
     let start = at-if1 .before .before .before .before .before .before .before in (
       start .pre .0,
       (
-        start .pre .1 .0 ∙ size-other (start .args .p) (start .args .round .b) (at-if1 .if1 .left),
+        start .pre .1 .0 ∙ size-other (start .args .p) (start .args .round .b)
+            (at-if1 .if1 .left),
         start .pre .1 .1,
       ),
     )

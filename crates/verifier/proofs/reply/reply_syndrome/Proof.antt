@@ -109,8 +109,8 @@ subtract-requires c κs =
     let p = start .args .p in
     let m = lent-length (product-lent at-syndrome) in
     let product = made 127 (p .n - p .k) (lent-part (product-lent at-syndrome) ∙ at-syndrome .syndrome .ensures)
-    (length-syndrome (p .k) (start .args .vs .now) _ ∙ ap (λ (x : ℕ). x - p .k)
-    (ap length (lent-part (scaled-lent at-scale)) ∙ scaled-vector at-scale .long))
+    (length-syndrome (p .k) (start .args .vs .now) _
+    ∙ ap (λ (x : ℕ). x - p .k) (ap length (lent-part (scaled-lent at-scale)) ∙ scaled-vector at-scale .long))
     (below-syndrome (p .k) (start .args .vs .now) _) in (
       start .pre .0 .3,
       start .pre .1 .2 ∙ m,
@@ -130,8 +130,10 @@ returns c =
     let start = entry-scale at-scale in
     let a = start .args in
     let scaling = lent-part (scaled-lent at-scale) ∙ at-scale .scale .ensures in
-    let product = lent-part (product-lent at-syndrome) ∙ at-syndrome .syndrome .ensures ∙ ap
-    (λ (x : List ℕ). syndrome (a .p .k) (a .vs .now) x) scaling in
+    let product =
+    lent-part (product-lent at-syndrome) ∙ at-syndrome .syndrome .ensures
+    ∙ ap (λ (x : List ℕ). syndrome (a .p .k) (a .vs .now) x) scaling
+    in
     at-subtract .subtract .ensures ∙ ap (λ (x : List ℕ). lessTimes (a .beta .0) x (a .s .now)) product
 
 pub reply-syndrome-spec : {M : Type 1} → statement M

@@ -92,10 +92,11 @@ slice-aggregate-commitment : tie.Need-slice-aggregate-commitment
 slice-aggregate-commitment c = lent-length (made-lent (c .before .before))
 
 -- c as it is made from the strings that the sponges hold
-committed : (c : tie.After-hash2) {c0s c1s hs : List ℕ} → HoldAll (entry-hash2 c .args .sponges)
-    (entry-hash2 c .args .p .rate) c0s c1s hs
-    → take (entry-hash2 c .args .p .digest) (c .hash2 .last .1 .1 .1 .1 .0 ++ drop (entry-hash2 c .args .p .digest)
-    (replicate 64 0)) ≡ joined (entry-hash2 c .args .p) (aggregate (entry-hash2 c .args .p) c0s) c1s
+committed : (c : tie.After-hash2) {c0s c1s hs : List ℕ} →
+    HoldAll (entry-hash2 c .args .sponges) (entry-hash2 c .args .p .rate) c0s c1s hs
+    → take (entry-hash2 c .args .p .digest) (c .hash2 .last .1 .1 .1 .1 .0
+    ++ drop (entry-hash2 c .args .p .digest) (replicate 64 0))
+    ≡ joined (entry-hash2 c .args .p) (aggregate (entry-hash2 c .args .p) c0s) c1s
 unfolding aggregate joined string5
 committed c {c0s} {c1s} holds =
     let at-squeeze2 = c .before .before .before .before .before in
@@ -103,10 +104,13 @@ committed c {c0s} {c1s} holds =
     let start = entry-squeeze at-squeeze in
     let p = start .args .p in
     let sized = sym (long start) in
-    let c0 = lent-part (c0-lent at-squeeze) ∙ hashed p (at-squeeze .squeeze .ensures .holds (holds .c0))
-    (λ i. string3 c0s) sized in
-    let c1 = lent-part (c1-lent at-squeeze2) ∙ hashed p (at-squeeze2 .squeeze2 .ensures .holds (holds .c1))
-    (λ i. string4 c1s) sized in
+    let c0 =
+    lent-part (c0-lent at-squeeze) ∙ hashed p (at-squeeze .squeeze .ensures .holds (holds .c0)) (λ i. string3 c0s) sized
+    in
+    let c1 =
+    lent-part (c1-lent at-squeeze2) ∙ hashed p (at-squeeze2 .squeeze2 .ensures .holds (holds .c1))
+    (λ i. string4 c1s) sized
+    in
     lent-part (made-lent c) ∙ hashed p (c .hash2 .ensures) (λ i. 5 ∷ c0 i ++ c1 i) sized
 
 equal-requires : tie.Need-equal-requires
@@ -149,10 +153,10 @@ slice-aggregate-hash : tie.Need-slice-aggregate-hash
 slice-aggregate-hash c = lent-length (hs-lent (c .before .before))
 
 -- h likewise
-hashes : (c : tie.After-squeeze3) {c0s c1s hs : List ℕ} → HoldAll (entry-squeeze3 c .args .sponges)
-    (entry-squeeze3 c .args .p .rate) c0s c1s hs
-    → take (entry-squeeze3 c .args .p .digest) (c .squeeze3 .last .1 .0 ++ drop (entry-squeeze3 c .args .p .digest)
-    (replicate 64 0)) ≡ digest (entry-squeeze3 c .args .p) (string6 hs)
+hashes : (c : tie.After-squeeze3) {c0s c1s hs : List ℕ} →
+    HoldAll (entry-squeeze3 c .args .sponges) (entry-squeeze3 c .args .p .rate) c0s c1s hs
+    → take (entry-squeeze3 c .args .p .digest) (c .squeeze3 .last .1 .0
+    ++ drop (entry-squeeze3 c .args .p .digest) (replicate 64 0)) ≡ digest (entry-squeeze3 c .args .p) (string6 hs)
 hashes c {c0s} {c1s} {hs} holds =
     let start = entry-squeeze3 c in
     lent-part (hs-lent c) ∙ hashed (start .args .p) (c .squeeze3 .ensures .holds (holds .h)) (λ i. string6 hs)

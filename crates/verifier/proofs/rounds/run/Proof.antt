@@ -6,16 +6,7 @@ use borrow.Author.Needs.{needs}
 use lib.ListN.{length, getD}
 use Rattle.packing.proofs.Below.{below, below-at}
 use Rattle.scheme.specs.Sign.{partSize}
-use Rattle.verifier.proofs.Running.{
-  all-ready,
-  Running,
-  running-none,
-  part-within,
-  part-long,
-  running-more,
-  running-stops,
-  running-end,
-}
+use Rattle.verifier.proofs.Running.{all-ready, Running, running-none, part-within, part-long, running-more, running-stops, running-end}
 use Rattle.verifier.proofs.rounds.run.Statement.{statement}
 use Rattle.verifier.proofs.rounds.run.Tie as tie
 

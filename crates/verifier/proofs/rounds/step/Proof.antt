@@ -4,6 +4,7 @@ use mathlib.Core.List.{List, _++_}
 use Prim.Native.Nat.{ℕ, _+_, _-_, _≤_}
 use native.Mathlib.Omega.{arith}
 use borrow.Author.Needs.{needs}
+use borrow.Author.Tests.{eq-eqb, ne-eqb}
 use lib.ListN.{length, take, drop, replicate}
 use lib.Seq.{length-take-le}
 use Rattle.shake.specs.Fold.{Absorbs}
@@ -11,7 +12,7 @@ use Rattle.scheme.specs.Round.{replySize}
 use Rattle.expand.proofs.Lent.{Lent, part-length, lent-within, lent-length, lent-part}
 use Rattle.verifier.specs.Recomputed.{Recomputed}
 use Rattle.verifier.proofs.Halves.{tail}
-use Rattle.verifier.proofs.Stepping.{step-stops, step-one, step-other}
+use Rattle.verifier.proofs.Stepping.{pick-true, pick-false, step-stops, stepped}
 use Rattle.verifier.proofs.rounds.step.Statement.{statement}
 use Rattle.verifier.proofs.rounds.step.Tie as tie
 
@@ -61,9 +62,9 @@ recompute-requires c κs =
     let long = part-length (d + d) (replicate 128 0) (fits start) in (
       start .pre .0,
       (
-        length-take-le _ _ (within at-reply-size) ∙ at-reply-size .reply-size .ensures,
-        omega
-            (arith, long),
+        length-take-le _ _ (within at-reply-size)
+            ∙ at-reply-size .reply-size .ensures,
+        omega (arith, long),
       ),
     )
 
@@ -75,8 +76,8 @@ lent c = record { fits = fits (entry-recompute c); kept = c .recompute .kept .1 
 made : (c : tie.After-recompute) → Recomputed (entry-recompute c .args .p) (entry-recompute c .args .vs .now)
     (entry-recompute c .args .s .now) (entry-recompute c .args .round .b) (entry-recompute c .args .round .beta .0)
     (take (replySize (entry-recompute c .args .p) (entry-recompute c .args .round .b))
-    (entry-recompute c .args .part .now)) (entry-recompute c .args .salt .now)
-    (entry-recompute c .args .round .i) (c .recompute .result) (c .recompute .last .1 .1 .1 .1 .1 .1 .0)
+    (entry-recompute c .args .part .now)) (entry-recompute c .args .salt .now) (entry-recompute c .args .round .i)
+    (c .recompute .result) (c .recompute .last .1 .1 .1 .1 .1 .1 .0)
 made c =
     let at-reply-size = c .before .before .before in
     let start = entry-reply-size at-reply-size in
@@ -146,28 +147,29 @@ absorb-round-requires-2 c κs =
 abbrev lent-out : (c : tie.After-recompute) → List ℕ
 lent-out c =
     let start = entry-recompute c in
-    take (start .args .p .digest + start .args .p .digest) (c .recompute .last .1 .1 .1 .1 .1 .1 .0 ++ drop
-    (start .args .p .digest + start .args .p .digest) (replicate 128 0))
+    take (start .args .p .digest + start .args .p .digest)
+    (c .recompute .last .1 .1 .1 .1 .1 .1 .0 ++ drop (start .args .p .digest + start .args .p .digest)
+    (replicate 128 0))
 
-given : (c : tie.After-recompute) → take (entry-recompute c .args .p .digest) (lent-out c) ≡ take
-    (entry-recompute c .args .p .digest) (c .recompute .last .1 .1 .1 .1 .1 .1 .0)
+given : (c : tie.After-recompute) → take (entry-recompute c .args .p .digest) (lent-out c)
+    ≡ take (entry-recompute c .args .p .digest) (c .recompute .last .1 .1 .1 .1 .1 .1 .0)
 given c = ap (take ((entry-recompute c) .args .p .digest)) (lent-part (lent c))
 
 hashes : (c : tie.After-recompute) → take (length (lent-out c) - entry-recompute c .args .p .digest)
-    (drop (entry-recompute c .args .p .digest) (lent-out c)) ≡ drop (entry-recompute c .args .p .digest)
-    (c .recompute .last .1 .1 .1 .1 .1 .1 .0)
+    (drop (entry-recompute c .args .p .digest) (lent-out c))
+    ≡ drop (entry-recompute c .args .p .digest) (c .recompute .last .1 .1 .1 .1 .1 .1 .0)
 hashes c =
     let start = entry-recompute c in
     tail (start .args .p .digest) (lent-out c) ∙ ap (drop (start .args .p .digest)) (lent-part (lent c))
 
 brought : (c : tie.After-reply-size) → take (length (entry-reply-size c .args .part .now) - c .reply-size .result)
-    (drop (c .reply-size .result) (entry-reply-size c .args .part .now)) ≡ drop
-    (replySize (entry-reply-size c .args .p) (entry-reply-size c .args .round .b))
+    (drop (c .reply-size .result) (entry-reply-size c .args .part .now))
+    ≡ drop (replySize (entry-reply-size c .args .p) (entry-reply-size c .args .round .b))
     (entry-reply-size c .args .part .now)
 brought c =
     let start = entry-reply-size c in
-    tail (c .reply-size .result) (start .args .part .now) ∙ ap (λ (k : ℕ). drop k (start .args .part .now))
-    (c .reply-size .ensures)
+    tail (c .reply-size .result) (start .args .part .now)
+    ∙ ap (λ (k : ℕ). drop k (start .args .part .now)) (c .reply-size .ensures)
 
 returns-2 : tie.Need-returns-2
 returns-2 c =
@@ -177,12 +179,15 @@ returns-2 c =
     let at-reply-size = at-recompute .before .before .before in
     let start = entry-reply-size at-reply-size in
     let a = start .args in
+    let one = eq-eqb (a .round .b) 1 (at-if2 .if2 .taken) in
     let took = c .absorb-round .ensures in
-    step-one (a .part .now) (made at-recompute)
-    (start .pre .0 .0) (at-if1 .if1 .left) (at-if2 .if2 .taken)
-    (subst (λ (x : List ℕ). Absorbs (a .sponges .c0) x (c .absorb-round .result .c0)) (brought at-reply-size) (took .0))
-    (subst (λ (x : List ℕ). Absorbs (a .sponges .c1) x (c .absorb-round .result .c1)) (given at-recompute) (took .1))
-    (subst (λ (x : List ℕ). Absorbs (a .sponges .h) x (c .absorb-round .result .h)) (hashes at-recompute) (took .2))
+    let after = c .absorb-round .result in
+    stepped (a .part .now) (made at-recompute) (start .pre .0 .0) (at-if1 .if1 .left)
+    (subst (λ (x : List ℕ). Absorbs (a .sponges .c0) x (after .c0)) (brought at-reply-size ∙ pick-true _ _ _ one)
+    (took .0))
+    (subst (λ (x : List ℕ). Absorbs (a .sponges .c1) x (after .c1)) (given at-recompute ∙ pick-true _ _ _ one)
+    (took .1))
+    (subst (λ (x : List ℕ). Absorbs (a .sponges .h) x (after .h)) (hashes at-recompute) (took .2))
 
 returns-3 : tie.Need-returns-3
 returns-3 c =
@@ -192,13 +197,15 @@ returns-3 c =
     let at-reply-size = at-recompute .before .before .before in
     let start = entry-reply-size at-reply-size in
     let a = start .args in
+    let other = ne-eqb (a .round .b) 1 (at-if2 .if2 .left) in
     let took = c .absorb-round2 .ensures in
-    step-other (a .part .now) (made at-recompute)
-    (start .pre .0 .0) (at-if1 .if1 .left) (at-if2 .if2 .left)
-    (subst (λ (x : List ℕ). Absorbs (a .sponges .c0) x (c .absorb-round2 .result .c0)) (given at-recompute) (took .0))
-    (subst (λ (x : List ℕ). Absorbs (a .sponges .c1) x (c .absorb-round2 .result .c1)) (brought at-reply-size)
+    let after = c .absorb-round2 .result in
+    stepped (a .part .now) (made at-recompute) (start .pre .0 .0) (at-if1 .if1 .left)
+    (subst (λ (x : List ℕ). Absorbs (a .sponges .c0) x (after .c0)) (given at-recompute ∙ pick-false _ _ _ other)
+    (took .0))
+    (subst (λ (x : List ℕ). Absorbs (a .sponges .c1) x (after .c1)) (brought at-reply-size ∙ pick-false _ _ _ other)
     (took .1))
-    (subst (λ (x : List ℕ). Absorbs (a .sponges .h) x (c .absorb-round2 .result .h)) (hashes at-recompute) (took .2))
+    (subst (λ (x : List ℕ). Absorbs (a .sponges .h) x (after .h)) (hashes at-recompute) (took .2))
 
 pub step-spec : {M : Type 1} → statement M
 step-spec =

@@ -15,16 +15,7 @@ use Rattle.expand.proofs.Lent.{Lent, part-length, lent-within, lent-length, len
 use Rattle.packing.specs.Vector.{Vector}
 use Rattle.verifier.proofs.Halves.{tail}
 use Rattle.verifier.proofs.Running.{all-ready}
-use Rattle.verifier.proofs.Pieces.{
-  first-short,
-  second-short,
-  first-vector,
-  Drawn,
-  second-long,
-  offset-all,
-  rounds-stop,
-  compared,
-}
+use Rattle.verifier.proofs.Pieces.{first-short, second-short, first-vector, Drawn, second-long, offset-all, rounds-stop, compared}
 use Rattle.verifier.proofs.verify.pieces.Statement.{statement}
 use Rattle.verifier.proofs.verify.pieces.Tie as tie
 
@@ -74,15 +65,16 @@ pieces-are c =
     (take (three i) (drop (2 * d) sig)) (left i) (a .msg .now))
 
 -- the signature's size, and that of its rounds
-sized : (c : tie.Start) → length (c .args .sig .now) ≡ 3 * c .args .p .digest + c .args .p .w * partSize (c .args .p)
-    1 + (c .args .p .t - c .args .p .w) * partSize (c .args .p) 0
+sized : (c : tie.Start) → length (c .args .sig .now)
+    ≡ 3 * c .args .p .digest + c .args .p .w * partSize (c .args .p) 1 + (c .args .p .t - c .args .p .w) * partSize
+    (c .args .p) 0
 sized c = c .pre .3
 
-rounds-long : (c : tie.Start) → length (rounds c) ≡ c .args .p .w * partSize (c .args .p) 1 +
-    (c .args .p .t - c .args .p .w) * partSize (c .args .p) 0
+rounds-long : (c : tie.Start) → length (rounds c)
+    ≡ c .args .p .w * partSize (c .args .p) 1 + (c .args .p .t - c .args .p .w) * partSize (c .args .p) 0
 rounds-long c =
-    ap length (tail (3 * c .args .p .digest) (c .args .sig .now)) ∙ length-drop (3 * c .args .p .digest)
-    (c .args .sig .now) ∙ omega (arith, sized c)
+    ap length (tail (3 * c .args .p .digest) (c .args .sig .now))
+    ∙ length-drop (3 * c .args .p .digest) (c .args .sig .now) ∙ omega (arith, sized c)
 
 mul-d2 : tie.Need-mul-d2
 mul-d2 c =
@@ -142,8 +134,8 @@ returns c =
     ∙ pieces-are start
 
 -- the first challenges
-betas-within : (c : tie.After-first-challenges) → entry-first-challenges c .args .p .t ≤ length
-    (c .first-challenges .last .1 .1 .1 .1 .0)
+betas-within : (c : tie.After-first-challenges) → entry-first-challenges c .args .p .t
+    ≤ length (c .first-challenges .last .1 .1 .1 .1 .0)
 betas-within c =
     rw (c .first-challenges .kept .1 .1 .1 .1 .0) (omega (arith, entry-first-challenges c .pre .0 .t-fits))
 
@@ -193,8 +185,8 @@ second-challenges-requires c κs =
       start .pre .0,
       betas .long,
       betas .ranged,
-      sym (part-length (start .args .p .t) (replicate 512 0)
-          (start .pre .0 .t-fits)),
+      sym
+          (part-length (start .args .p .t) (replicate 512 0) (start .pre .0 .t-fits)),
     )
 
 returns-2 : tie.Need-returns-2

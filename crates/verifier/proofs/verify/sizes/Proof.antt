@@ -46,8 +46,8 @@ returns-3 c =
     rw (
       eq-eqb (a .key) (keySize (a .p)) (at-if1 .if1 .left ∙ at-key-size .key-size .ensures),
       le-leb (a .msg) messageMax (at-if2 .if2 .left),
-      ne-eqb (a .sig) (signatureSize (a .p))
-          (λ e. c .if3 .taken (e ∙ sym (at-signature-size .signature-size .ensures))),
+      ne-eqb (a .sig) (signatureSize (a .p)) (λ e. c .if3 .taken
+          (e ∙ sym (at-signature-size .signature-size .ensures))),
     )
 
 returns-4 : tie.Need-returns-4

@@ -200,12 +200,16 @@ slice-aggregate-pieces c =
 
 array-share-prefix-s : tie.Need-array-share-prefix-s
 array-share-prefix-s c =
-    let at-syndrome = c .before .before .before .before .before .before .before .before .before .before .before .before .before in
+    let at-if3 = c .before .before in
+    let at-if2 = at-if3 .before .before .before .before .before .before .before .before .before in
+    let at-syndrome = at-if2 .before .before in
     lent-within (s-lent at-syndrome)
 
 slice-aggregate-pieces-2 : tie.Need-slice-aggregate-pieces-2
 slice-aggregate-pieces-2 c =
-    let at-syndrome = c .before .before .before .before .before .before .before .before .before .before .before .before .before .before in
+    let at-if3 = c .before .before .before in
+    let at-if2 = at-if3 .before .before .before .before .before .before .before .before .before in
+    let at-syndrome = at-if2 .before .before in
     lent-length (s-lent at-syndrome)
 
 pieces-requires : tie.Need-pieces-requires
