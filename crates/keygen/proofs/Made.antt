@@ -17,7 +17,23 @@ use Rattle.shake.specs.Shake.{shake}
 use Rattle.sampling.proofs.Kept.{sample-below}
 use Rattle.linear.specs.Linear.{powers, syndrome}
 use Rattle.scheme.specs.Strings.{bytesFrom, string10, string12}
-use Rattle.scheme.specs.Key.{keySeeds, secretSeed, publicSeed, matrix, matrixDrawn, matrixCount, matrixBlock, exponentsFrom, exponentsDrawn, keyExponents, keySyndrome, publicKey, keySize, keyDraws, makeKeyChecks}
+use Rattle.scheme.specs.Key.{
+  keySeeds,
+  secretSeed,
+  publicSeed,
+  matrix,
+  matrixDrawn,
+  matrixCount,
+  matrixBlock,
+  exponentsFrom,
+  exponentsDrawn,
+  keyExponents,
+  keySyndrome,
+  publicKey,
+  keySize,
+  keyDraws,
+  makeKeyChecks,
+}
 use Rattle.expand.specs.Expanded.{Expanded}
 use Rattle.keygen.specs.Material.{Material}
 
@@ -59,7 +75,8 @@ module _ (p : Params) (private : List ℕ) {seeds : List ℕ} (held : seeds ≡ 
         }
 
     -- V is there, and the key exponents decide
-    pub exponents-drawn : {secret : List ℕ} {got ok : Bool} {vs es : List ℕ} → secret ≡ secretSeed p private → got ≡ true →
+    pub exponents-drawn : {secret : List ℕ} {got ok : Bool} {vs es : List ℕ} → secret ≡ secretSeed p private → got
+        ≡ true →
         Expanded (matrixDrawn p public) (matrixCount p) (matrix p public) got vs →
         Expanded (exponentsDrawn p (string10 secret)) (p .n) (exponentsFrom p (string10 secret)) ok es →
         Material p private ok seeds vs es
@@ -96,7 +113,8 @@ below-matrix p public = sample-below 7 127 0 (matrixCount p) (matrixBlock p publ
 pub below-powers : {es : List ℕ} → Below 7 es → Below 127 (powers es)
 unfolding powers
 below-powers none = none
-below-powers (more {x = e} h rest) = more {x = 2 ^ e} (let small : 2 ^ e ≤ 2 ^ 6 = pow-mono {i = e} {j = 6} (omega arith) in omega arith) (below-powers rest)
+below-powers (more {x = e} h rest) = more {x = 2 ^ e}
+    (let small : 2 ^ e ≤ 2 ^ 6 = pow-mono {i = e} {j = 6} (omega arith) in omega arith) (below-powers rest)
 
 -- with both sizes right, the draws decide
 pub sized-checks : (p : Params) (private : List ℕ) (lent : ℕ) → length private ≡ p .digest → lent ≡ keySize p →

@@ -25,15 +25,18 @@ module _ (at : ℕ) (front old new : List ℕ) (sized : length front ≡ at) whe
   length-written within = length-append front (drop at old) ∙ omega (arith, length-drop at old)
 
   -- a part up to the end: nothing is left behind it
-  pub put-last : at ≤ length old → putMid at (length (front ++ drop at old) - at) (front ++ drop at old) new ≡ front ++ new
+  pub put-last : at ≤ length old → putMid at (length (front ++ drop at old) - at) (front ++ drop at old) new ≡ front
+      ++ new
   put-last within =
       let long : length (front ++ drop at old) ≡ length old = length-written within in
       put-next (length (front ++ drop at old)) (omega arith)
-      ∙ ap (λ (rest : List ℕ). front ++ new ++ rest) (drop-of-length-le old {i = length (front ++ drop at old)} (omega arith))
+      ∙ ap (λ (rest : List ℕ). front ++ new ++ rest)
+      (drop-of-length-le old {i = length (front ++ drop at old)} (omega arith))
       ∙ append-nil (front ++ new)
 
   -- the part up to the end has the places that are left
-  pub length-last : at ≤ length old → length (midOf at (length (front ++ drop at old) - at) (front ++ drop at old)) ≡ length old - at
+  pub length-last : at ≤ length old → length (midOf at (length (front ++ drop at old) - at) (front ++ drop at old))
+      ≡ length old - at
   length-last within =
       mid-len at (length (front ++ drop at old)) (front ++ drop at old) (omega arith)
       ∙ ap (λ (n : ℕ). n - at) (length-written within)

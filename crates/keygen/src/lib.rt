@@ -1,5 +1,8 @@
 // Making keys, over the sizes of a category and lent scratch.
+use parameters::DRAWN_PLACES;
+use parameters::PLACES;
 use parameters::Params;
+use parameters::TWO_DIGESTS;
 ghost use mathlib.Core.Path.{_≡_};
 ghost use mathlib.Core.List.{_++_};
 ghost use Prim.Native.Nat.{_+_, _*_, _≤_};
@@ -22,7 +25,8 @@ pub fn material(
     vs: &mut [u8],
     es: &mut [u8],
 ) -> bool
-    requires { ⌜ Sound p × (length (now seeds) ≡ 2 * p .digest) × (length (now block) ≡ p .matrix) × (length (now vs) ≡ matrixCount p + 8) × (p .n + 8 ≤ length (now es)) ⌝ }
+    requires { ⌜ Sound p × (length (now seeds) ≡ 2 * p .digest) × (length (now block) ≡ p .matrix)
+        × (length (now vs) ≡ matrixCount p + 8) × (p .n + 8 ≤ length (now es)) ⌝ }
     ensures { λ r. ⌜ Material p (now (private .entry)) r (now (seeds .exit)) (now (vs .exit)) (now (es .exit)) ⌝ }
 {
     let d = p.digest;
@@ -35,15 +39,18 @@ pub fn material(
 
 // The public key of a public seed, V and key exponents.
 fn write_key(p: Params, public: &[u8], vs: &[u8], es: &[u8], key: &mut [u8])
-    requires { ⌜ Sound p × (length (now public) ≡ p .digest) × (length (now vs) ≡ matrixCount p) × T (allBelow 127 (now vs)) × (length (now es) ≡ p .n) × T (allBelow 7 (now es)) × (length (now key) ≡ keySize p) ⌝ }
-    ensures { λ r. ⌜ now (key .exit) ≡ now (public .entry) ++ pack 7 (syndrome (p .k) (now (vs .entry)) (powers (now (es .entry)))) ⌝ }
+    requires { ⌜ Sound p × (length (now public) ≡ p .digest) × (length (now vs) ≡ matrixCount p)
+        × T (allBelow 127 (now vs)) × (length (now es) ≡ p .n) × T (allBelow 7 (now es))
+        × (length (now key) ≡ keySize p) ⌝ }
+    ensures { λ r. ⌜ now (key .exit) ≡ now (public .entry)
+        ++ pack 7 (syndrome (p .k) (now (vs .entry)) (powers (now (es .entry)))) ⌝ }
 {
     let n = p.n;
     let k = p.k;
     let d = p.digest;
     let rows = n - k;
-    let mut x = [0u8; 256];
-    let mut s = [0u8; 256];
+    let mut x = [0u8; PLACES];
+    let mut s = [0u8; PLACES];
     linear::powers(es, &mut x[..n]);
     linear::syndrome(k, vs, &x[..n], &mut s[..rows]);
     buffers::copy(&mut key[..d], public);
@@ -61,13 +68,13 @@ pub fn make_key(p: Params, private: &[u8], block: &mut [u8], vs: &mut [u8], key:
     if private.len() != d {
         return 1;
     }
-    if key.len() != d + packing::packed_size(n - k, 7) {
+    if key.len() != scheme::key_size(p) {
         return 1;
     }
     let both = 2 * d;
     let count = (n - k) * k;
-    let mut seeds = [0u8; 128];
-    let mut es = [0u8; 264];
+    let mut seeds = [0u8; TWO_DIGESTS];
+    let mut es = [0u8; DRAWN_PLACES];
     if !material(p, private, &mut seeds[..both], block, vs, &mut es) {
         return 2;
     }

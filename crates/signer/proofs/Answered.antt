@@ -1,5 +1,5 @@
 -- The order of the checks of signing: sizes, the key's draws, then those of the signature. Assumes nothing.
-use mathlib.Core.Path.{_≡_, refl, _∙_, ap, sym, subst}
+use mathlib.Core.Path.{_≡_, refl, _∙_, sym, transport}
 use mathlib.Core.Bool.{true, false}
 use mathlib.Core.List.{List, [], _∷_, _++_}
 use Prim.Native.Nat.{ℕ}
@@ -9,8 +9,8 @@ use Rattle.outcome.specs.Answer.{Check, _unless_, firstRefusal, Passed, Answers
 use Rattle.outcome.proofs.Checks.{passed, passed-front, refused-front}
 use Rattle.parameters.specs.declared.Params.{Params}
 use Rattle.scheme.specs.Key.{publicSeed, matrix, keyExponents, keyDraws}
-use Rattle.scheme.specs.Sign.{signatureSize, roundSeed, signDraws, signatureFrom, signature, signChecks}
-use Rattle.signer.specs.Sizes.{sizeChecks}
+use Rattle.scheme.specs.Sign.{signatureSize, roundSeed, signSizes, signDraws, signatureFrom, signature, signChecks}
+use Rattle.scheme.proofs.Keyed.{drawsOf}
 
 -- checks that refuse decide, whatever stands behind them
 refused-whole : (xs ys : List Check) → (firstRefusal xs ≡ 0 → ⊥) → firstRefusal (xs ++ ys) ≡ firstRefusal xs
@@ -20,21 +20,15 @@ refused-whole (r unless false ∷ xs) ys other = refl
 
 module _ (p : Params) (private master salt msg : List ℕ) (lent : ℕ) where
   abbrev sizes : List Check
-  sizes = sizeChecks p private master salt msg lent
+  sizes = signSizes p private master salt msg lent
 
   abbrev draws : List Check
-  draws = signDraws p (matrix p (publicSeed p private)) (keyExponents p private) (roundSeed p master salt) salt msg
+  draws = drawsOf p private master salt msg
 
-  whole : signChecks p private master salt msg lent ≡ sizes ++ keyDraws p private ++ draws
-  unfolding signChecks sizeChecks
-  whole = refl
-
-  pub sizes-refuse : (firstRefusal sizes ≡ 0 → ⊥) → firstRefusal (signChecks p private master salt msg lent) ≡ firstRefusal sizes
-  sizes-refuse other =
-      let front = refused-whole sizes (keyDraws p private) other in
-      ap firstRefusal whole
-      ∙ refused-whole (sizes ++ keyDraws p private) draws (λ e. other (sym front ∙ e))
-      ∙ front
+  pub sizes-refuse : (firstRefusal sizes ≡ 0 → ⊥) →
+      firstRefusal (signChecks p private master salt msg lent) ≡ firstRefusal sizes
+  unfolding signChecks
+  sizes-refuse other = refused-whole sizes (keyDraws p private ++ draws) other
 
   -- the sizes that later steps rest on
   pub record Sized : Type 0 where
@@ -43,7 +37,7 @@ module _ (p : Params) (private master salt msg : List ℕ) (lent : ℕ) where
 
   module _ (right : firstRefusal sizes ≡ 0) where
     pub sized : Sized
-    unfolding sizeChecks
+    unfolding signSizes
     sized =
         let all : Passed sizes = passed sizes right in
         record {
@@ -52,27 +46,27 @@ module _ (p : Params) (private master salt msg : List ℕ) (lent : ℕ) where
         }
 
     pub key-short : firstRefusal (keyDraws p private) ≡ 2 → firstRefusal (signChecks p private master salt msg lent) ≡ 2
-    key-short e =
-        ap firstRefusal whole
-        ∙ refused-front (sizes ++ keyDraws p private) draws 1 (passed-front sizes (keyDraws p private) right ∙ e)
+    unfolding signChecks
+    key-short e = passed-front sizes (keyDraws p private ++ draws) right ∙ refused-front (keyDraws p private) draws 1 e
 
     -- the key is drawn: signing under V and the key exponents decides
     pub signed-with : {vs key old new : List ℕ} {r : ℕ} → firstRefusal (keyDraws p private) ≡ 0 →
         vs ≡ matrix p (publicSeed p private) → key ≡ keyExponents p private →
-        Answers (signDraws p vs key (roundSeed p master salt) salt msg) (signatureFrom p vs key (roundSeed p master salt) salt msg) old r new →
+        Answers (signDraws p vs key (roundSeed p master salt) salt msg)
+        (signatureFrom p vs key (roundSeed p master salt) salt msg) old r new →
         Answers (signChecks p private master salt msg lent) (signature p private master salt msg) old r new
-    unfolding signature
-    signed-with {vs = vs} {key = key} {old = old} {new = new} {r = r} drawn vs-is key-is answers =
-        let moved : Answers draws (signatureFrom p (matrix p (publicSeed p private)) (keyExponents p private) (roundSeed p master salt) salt msg) old r new =
-        subst (λ (k : List ℕ). Answers (signDraws p (matrix p (publicSeed p private)) k (roundSeed p master salt) salt msg)
-        (signatureFrom p (matrix p (publicSeed p private)) k (roundSeed p master salt) salt msg) old r new) key-is
-        (subst (λ (v : List ℕ). Answers (signDraws p v key (roundSeed p master salt) salt msg)
-        (signatureFrom p v key (roundSeed p master salt) salt msg) old r new) vs-is answers)
+    unfolding signature signChecks
+    signed-with {old = old} {new = new} {r = r} drawn vs-is key-is answers =
+        let moved : Answers draws (signature p private master salt msg) old r new =
+        transport
+        (λ i. Answers (signDraws p (vs-is i) (key-is i) (roundSeed p master salt) salt msg)
+        (signatureFrom p (vs-is i) (key-is i) (roundSeed p master salt) salt msg) old r new)
+        answers
         in
         record {
           answer =
               moved .answer
-              ∙ sym (ap firstRefusal whole
-              ∙ passed-front (sizes ++ keyDraws p private) draws (passed-front sizes (keyDraws p private) right ∙ drawn));
+              ∙ sym (passed-front sizes (keyDraws p private ++ draws) right
+              ∙ passed-front (keyDraws p private) draws drawn);
           content = moved .content;
         }

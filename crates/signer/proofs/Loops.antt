@@ -58,15 +58,6 @@ last-or-below {P} j m l last below = at (eqb j m) refl
     at true e = last (eqb-true j m e)
     at false e = below (let other : j ≡ m → ⊥ = eqb-false j m e in omega arith)
 
--- a total up to here is at most the whole
-pub total-within : (f : ℕ → ℕ) (j m : ℕ) → j < m → total f j + f j ≤ total f m
-unfolding total
-total-within f j zero l = absurd (not-suc-le-zero l)
-total-within f j (suc m) l =
-    last-or-below j m l
-    (λ e. subst (λ (n : ℕ). total f j + f j ≤ total f n + f n) e (omega arith))
-    (λ below. let rest : total f j + f j ≤ total f m = total-within f j m below in omega arith)
-
 -- the first list of checks that refuses decides
 pub flat-refused : (f : ℕ → List Check) (j m k : ℕ) → j < m → firstRefusal (flat f j) ≡ 0 → firstRefusal (f j) ≡ suc k →
     firstRefusal (flat f m) ≡ suc k

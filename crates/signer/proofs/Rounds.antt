@@ -28,7 +28,8 @@ module _ (p : Params) (seed salt : List ℕ) (i : ℕ) where
   abbrev valuesDraw : List Check
   valuesDraw = short unless valuesDrawn ∷ []
 
-  pub exponents-short : exponentsDrawn p (string10-round seed salt i) ≡ false → firstRefusal (roundDraws p seed salt i) ≡ 2
+  pub exponents-short : exponentsDrawn p (string10-round seed salt i) ≡ false →
+      firstRefusal (roundDraws p seed salt i) ≡ 2
   unfolding roundDraws
   exponents-short e = fails short (exponentsDrawn p (string10-round seed salt i)) valuesDraw e
 
@@ -46,18 +47,22 @@ module _ (p : Params) (seed salt : List ℕ) (i : ℕ) where
   below-values = sample-below 7 127 0 (p .n) (maskBlock p seed salt i)
 
 -- the state of a round from its masks
-pub state-made : (p : Params) (vs key seed salt : List ℕ) (j : ℕ) {us es : List ℕ} → us ≡ maskValues p seed salt (j + 1) →
+pub state-made : (p : Params) (vs key seed salt : List ℕ) (j : ℕ) {us es : List ℕ} →
+    us ≡ maskValues p seed salt (j + 1) →
     es ≡ maskExponents p seed salt (j + 1) →
-    us ++ es ++ digest p (string0 (syndrome (p .k) vs (scaled (transformation key es) us)) (transformation key es) salt (j + 1)) ++
+    us ++ es ++ digest p (string0 (syndrome (p .k) vs (scaled (transformation key es) us)) (transformation key es) salt
+    (j + 1)) ++
     digest p (string1 us es salt (j + 1)) ≡ roundState p vs key (λ _. seed) salt j
 unfolding roundState u′ e′ σ s̃ c0 c1
 state-made p vs key seed salt j u e =
     λ k. u k ++ e k ++
-    digest p (string0 (syndrome (p .k) vs (scaled (transformation key (e k)) (u k))) (transformation key (e k)) salt (j + 1)) ++
+    digest p (string0 (syndrome (p .k) vs (scaled (transformation key (e k)) (u k))) (transformation key (e k)) salt
+    (j + 1)) ++
     digest p (string1 (u k) (e k) salt (j + 1))
 
 -- only the round's own seed enters
-pub state-of : (p : Params) (vs key : List ℕ) (seed : ℕ → List ℕ) (salt : List ℕ) (j : ℕ) {own : List ℕ} → own ≡ seed j →
+pub state-of : (p : Params) (vs key : List ℕ) (seed : ℕ → List ℕ) (salt : List ℕ) (j : ℕ) {own : List ℕ} →
+    own ≡ seed j →
     roundState p vs key (λ _. own) salt j ≡ roundState p vs key seed salt j
 unfolding roundState u′ e′ σ s̃ c0 c1
 state-of p vs key seed salt j e = ap (λ (s : List ℕ). roundState p vs key (λ _. s) salt j) e

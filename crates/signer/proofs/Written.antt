@@ -27,7 +27,8 @@ module _ {at : ℕ} {front old now : List ℕ} (w : Written at front old now) wh
   pub written-length : length now ≡ length old
   written-length =
       let size : length now ≡ at + length (drop at old) =
-      ap (λ (xs : List ℕ). length xs) (w .is) ∙ length-append front (drop at old) ∙ ap (λ (n : ℕ). n + length (drop at old)) (w .sized)
+      ap (λ (xs : List ℕ). length xs) (w .is) ∙ length-append front (drop at old)
+      ∙ ap (λ (n : ℕ). n + length (drop at old)) (w .sized)
       in
       let inside : at ≤ length old = w .within in
       omega (arith, length-drop at old)
@@ -39,13 +40,15 @@ module _ {at : ℕ} {front old now : List ℕ} (w : Written at front old now) wh
   pub rest-length : length (midOf at (length now - at) now) ≡ length old - at
   rest-length = mid-len at (length now) now (omega arith) ∙ ap (λ (n : ℕ). n - at) written-length
 
-  pub written-next : (end : ℕ) (new : List ℕ) → at ≤ end → end ≤ length old → length new ≡ length (midOf at (end - at) now) →
+  pub written-next : (end : ℕ) (new : List ℕ) → at ≤ end → end ≤ length old →
+      length new ≡ length (midOf at (end - at) now) →
       Written end (front ++ new) old (putMid at (end - at) now new)
   written-next end new ordered inside kept =
       let long : length new ≡ end - at = kept ∙ part-length end inside in
       let start : length front ≡ at = w .sized in
       record {
-        is = ap (λ (xs : List ℕ). putMid at (end - at) xs new) (w .is) ∙ put-next at front old new (w .sized) end ordered;
+        is = ap (λ (xs : List ℕ). putMid at (end - at) xs new) (w .is)
+            ∙ put-next at front old new (w .sized) end ordered;
         sized = length-append front new ∙ omega arith;
         within = inside;
       }

@@ -11,16 +11,24 @@ use lib.ListN.{length, take, drop, getD}
 use Rattle.outcome.specs.Answer.{Check, _unless_, short, firstRefusal, pick, Answers}
 use Rattle.outcome.specs.Lists.{flat}
 use Rattle.packing.specs.Packing.{pack}
+use Rattle.packing.specs.Vector.{Vector}
 use Rattle.parameters.specs.declared.Params.{Params}
 use Rattle.linear.specs.Linear.{response, transformation, scaled, syndrome}
 use Rattle.scheme.specs.Strings.{digest, string0, string1, string2, string6}
 use Rattle.scheme.specs.Sign.{u′, e′, c0, c1, secondChallenges, secondDrawn}
-use Rattle.packing.specs.Vector.{Vector}
+use Rattle.signer.specs.declared.commit.Column.{Column}
 
 -- Checks that all refuse as short, with what they leave in a lent buffer where they pass.
 pub record Drawn (checks : List Check) (made : List ℕ) (ok : Bool) (lent : List ℕ) : Type 0 where
   pub answer : firstRefusal checks ≡ pick ok 0 2
   pub content : ok ≡ true → lent ≡ made
+
+-- the same bytes of each state: those of state j, and of all of them, joined
+abbrev pub columnAt : (size offset width : ℕ) (states : List ℕ) → ℕ → List ℕ
+columnAt size offset width states j = take width (drop offset (take size (drop (size * j) states)))
+
+abbrev pub columnOf : Column → List ℕ → List ℕ
+columnOf c states = flat (columnAt (c .size) (c .offset) (c .width) states) (c .count)
 
 module _ (p : Params) where
   abbrev pub stateSize : ℕ
@@ -28,8 +36,7 @@ module _ (p : Params) where
 
   -- the state of round j, from the seeds of the rounds
   unfoldable pub roundState : (vs key : List ℕ) (seed : ℕ → List ℕ) (salt : List ℕ) → ℕ → List ℕ
-  roundState vs key seed salt j =
-      u′ p vs key seed salt [] j ++ e′ p vs key seed salt [] j ++ c0 p vs key seed salt [] j ++ c1 p vs key seed salt [] j
+  roundState vs key seed salt j = u′ p seed salt j ++ e′ p seed salt j ++ c0 p vs key seed salt j ++ c1 p seed salt j
 
   -- the string of c0(i) from V, the key exponents and the masks u' and e', and the state that they give
   abbrev pub syndromeString : (vs key us es salt : List ℕ) → ℕ → List ℕ
@@ -37,7 +44,8 @@ module _ (p : Params) where
       string0 (syndrome (p .k) vs (scaled (transformation key es) us)) (transformation key es) salt i
 
   abbrev pub stateFrom : (vs key us es salt : List ℕ) → ℕ → List ℕ
-  stateFrom vs key us es salt i = us ++ es ++ digest p (syndromeString vs key us es salt i) ++ digest p (string1 us es salt i)
+  stateFrom vs key us es salt i =
+      us ++ es ++ digest p (syndromeString vs key us es salt i) ++ digest p (string1 us es salt i)
 
   -- the seed and the state of round j among those of all rounds
   abbrev pub seedAt : List ℕ → ℕ → List ℕ
@@ -59,31 +67,38 @@ module _ (p : Params) where
   abbrev pub c1Of : List ℕ → List ℕ
   c1Of state = take (p .digest) (drop (2 * p .n + p .digest) state)
 
-  -- y under a first challenge, h(i), and h of all rounds
+  -- all c0(i) and all c1(i)
+  abbrev pub c0s : List ℕ → List ℕ
+  c0s states = flat (λ j. c0Of (stateAt states j)) (p .t)
+
+  abbrev pub c1s : List ℕ → List ℕ
+  c1s states = flat (λ j. c1Of (stateAt states j)) (p .t)
+
+  -- y under a first challenge, and the part of a round: seed and c0(i) under 1; y, σ and c1(i) under 0
   unfoldable pub responseOf : ℕ → List ℕ → List ℕ
   responseOf β state = response β (valuesOf state) (exponentsOf state)
 
-  unfoldable pub responseDigest : List ℕ → List ℕ → ℕ → List ℕ
-  responseDigest states β j = digest p (string2 (responseOf (getD β j 0) (stateAt states j)))
-
-  unfoldable pub responsesDigest : List ℕ → List ℕ → List ℕ
-  responsesDigest states β = digest p (string6 (flat (responseDigest states β) (p .t)))
-
-  -- the part of a round: seed and c0(i) under 1; y, σ and c1(i) under 0
   unfoldable pub partOf : (key : List ℕ) (β b : ℕ) (seed state : List ℕ) → List ℕ
   partOf key β b seed state =
       pick (eqb b 1) (seed ++ c0Of state)
       (pack 7 (responseOf β state) ++ pack 3 (transformation key (exponentsOf state)) ++ c1Of state)
 
-  unfoldable pub partAt : (key seeds states β b : List ℕ) → ℕ → List ℕ
-  partAt key seeds states β b j = partOf key (getD β j 0) (getD b j 0) (seedAt seeds j) (stateAt states j)
+  -- Over the states of all rounds, under first challenges β: h(i), h, and under second challenges b the parts.
+  module _ (states β : List ℕ) where
+    unfoldable pub hAt : ℕ → List ℕ
+    hAt j = digest p (string2 (responseOf (getD β j 0) (stateAt states j)))
 
-  -- what replying to c, the first challenges β and h answers: one more draw, then the signature
-  abbrev pub Replied : (key seeds states salt msg c β h old : List ℕ) (r : ℕ) (new : List ℕ) → Type 0
-  Replied key seeds states salt msg c β h old r new =
-      Answers (short unless secondDrawn p c β h salt msg ∷ [])
-      (salt ++ c ++ h ++ flat (partAt key seeds states β (secondChallenges p c β h salt msg)) (p .t))
-      old r new
+    unfoldable pub hOf : List ℕ
+    hOf = digest p (string6 (flat hAt (p .t)))
+
+    unfoldable pub partAt : (key seeds b : List ℕ) → ℕ → List ℕ
+    partAt key seeds b j = partOf key (getD β j 0) (getD b j 0) (seedAt seeds j) (stateAt states j)
+
+    -- what replying answers, with c: one more draw, then the signature
+    abbrev pub Replied : (key seeds salt msg c old : List ℕ) (r : ℕ) (new : List ℕ) → Type 0
+    Replied key seeds salt msg c =
+        Answers (short unless secondDrawn p c β hOf salt msg ∷ [])
+        (salt ++ c ++ hOf ++ flat (partAt key seeds (secondChallenges p c β hOf salt msg)) (p .t))
 
   -- a state with u' and e' in their ranges, and the states of all rounds
   pub record State (state : List ℕ) : Type 0 where

@@ -1,32 +1,41 @@
 // The first step of every round: its masks and its two commitments; and the commitment to all rounds.
+use crate::sizes;
+use parameters::DIGEST;
+use parameters::DRAWN_PLACES;
+use parameters::PACKED_EXPONENTS;
+use parameters::PACKED_VALUES;
+use parameters::PLACES;
 use parameters::Params;
 use shake::Sponge;
 ghost use mathlib.Core.Path.{_≡_};
 ghost use mathlib.Core.List.{_∷_, _++_};
 ghost use Prim.Native.Nat.{_+_, _*_, _≤_};
 ghost use lib.Dec.{T};
-ghost use lib.ListN.{length, take, drop};
+ghost use lib.ListN.{length};
 ghost use Rattle.outcome.specs.Lists.{flat};
 ghost use Rattle.parameters.specs.Sound.{Sound};
 ghost use Rattle.shake.specs.Fold.{Rate, Ready, Absorbs};
 ghost use Rattle.shake.specs.Shake.{shake};
 ghost use Rattle.packing.specs.Packing.{allBelow, pack, digits};
-ghost use Rattle.scheme.specs.Strings.{digest, commitment};
+ghost use Rattle.scheme.specs.Strings.{digest, aggregate, joined};
 ghost use Rattle.scheme.specs.Key.{matrixCount};
 ghost use Rattle.scheme.specs.Round.{roundDraws};
+ghost use Rattle.scheme.specs.Sign.{seedDraws};
 ghost use Rattle.packing.specs.Vector.{Vector};
-ghost use Rattle.signer.specs.State.{stateSize, stateAt, seedAt, syndromeString, stateFrom, roundState, c0Of, c1Of, Drawn};
+ghost use Rattle.signer.specs.State.{stateSize, seedAt, syndromeString, stateFrom, roundState, c0s, c1s, columnOf, Drawn};
 
 // A commitment of round i: values and exponents are packed where the string needs them.
 fn commit(rate: usize, tag: u8, xs: &[u8], es: &[u8], salt: &[u8], i: usize, out: &mut [u8])
-    requires { ⌜ Rate rate × T (allBelow 127 (now xs)) × (length (now xs) ≤ 256) × T (allBelow 7 (now es)) × (length (now es) ≤ 256) ⌝ }
-    ensures { λ r. ⌜ now (out .exit) ≡ shake rate (tag ∷ pack 7 (now (xs .entry)) ++ pack 3 (now (es .entry)) ++ now (salt .entry) ++ digits 8 2 i) (length (now (out .entry))) ⌝ }
+    requires { ⌜ Rate rate × T (allBelow 127 (now xs)) × (length (now xs) ≤ 256) × T (allBelow 7 (now es))
+        × (length (now es) ≤ 256) ⌝ }
+    ensures { λ r. ⌜ now (out .exit) ≡ shake rate (tag ∷ pack 7 (now (xs .entry)) ++ pack 3 (now (es .entry))
+        ++ now (salt .entry) ++ digits 8 2 i) (length (now (out .entry))) ⌝ }
 {
     let number = expand::round_number(i);
     let a = packing::packed_size(xs.len(), 7);
     let b = packing::packed_size(es.len(), 3);
-    let mut values = [0u8; 224];
-    let mut exponents = [0u8; 96];
+    let mut values = [0u8; PACKED_VALUES];
+    let mut exponents = [0u8; PACKED_EXPONENTS];
     expand::pack_values(xs, &mut values[..a]);
     expand::pack_exponents(es, &mut exponents[..b]);
     hashing::hash4(rate, tag, &values[..a], &exponents[..b], salt, &number, out);
@@ -43,15 +52,17 @@ fn commit_syndrome(
     i: usize,
     out: &mut [u8],
 )
-    requires { ⌜ Sound p × Vector 127 (matrixCount p) (now vs) × Vector 7 (p .n) (now key) × Vector 127 (p .n) (now us) × Vector 7 (p .n) (now es) × (length (now out) ≡ p .digest) ⌝ }
-    ensures { λ r. ⌜ now (out .exit) ≡ digest p (syndromeString p (now (vs .entry)) (now (key .entry)) (now (us .entry)) (now (es .entry)) (now (salt .entry)) i) ⌝ }
+    requires { ⌜ Sound p × Vector 127 (matrixCount p) (now vs) × Vector 7 (p .n) (now key) × Vector 127 (p .n) (now us)
+        × Vector 7 (p .n) (now es) × (length (now out) ≡ p .digest) ⌝ }
+    ensures { λ r. ⌜ now (out .exit) ≡ digest p (syndromeString p (now (vs .entry)) (now (key .entry)) (now (us .entry))
+        (now (es .entry)) (now (salt .entry)) i) ⌝ }
 {
     let n = p.n;
     let k = p.k;
     let rows = n - k;
-    let mut sigma = [0u8; 256];
-    let mut x = [0u8; 256];
-    let mut s = [0u8; 256];
+    let mut sigma = [0u8; PLACES];
+    let mut x = [0u8; PLACES];
+    let mut s = [0u8; PLACES];
     linear::transform(key, es, &mut sigma[..n]);
     linear::scale(&sigma[..n], us, &mut x[..n]);
     linear::syndrome(k, vs, &x[..n], &mut s[..rows]);
@@ -69,8 +80,10 @@ fn write_state(
     i: usize,
     state: &mut [u8],
 )
-    requires { ⌜ Sound p × Vector 127 (matrixCount p) (now vs) × Vector 7 (p .n) (now key) × Vector 127 (p .n) (now us) × Vector 7 (p .n) (now es) × (length (now state) ≡ stateSize p) ⌝ }
-    ensures { λ r. ⌜ now (state .exit) ≡ stateFrom p (now (vs .entry)) (now (key .entry)) (now (us .entry)) (now (es .entry)) (now (salt .entry)) i ⌝ }
+    requires { ⌜ Sound p × Vector 127 (matrixCount p) (now vs) × Vector 7 (p .n) (now key) × Vector 127 (p .n) (now us)
+        × Vector 7 (p .n) (now es) × (length (now state) ≡ stateSize p) ⌝ }
+    ensures { λ r. ⌜ now (state .exit) ≡ stateFrom p (now (vs .entry)) (now (key .entry)) (now (us .entry))
+        (now (es .entry)) (now (salt .entry)) i ⌝ }
 {
     let n = p.n;
     let both = n + n;
@@ -91,13 +104,16 @@ fn commit_round(
     j: usize,
     state: &mut [u8],
 ) -> bool
-    requires { ⌜ Sound p × Vector 127 (matrixCount p) (now vs) × Vector 7 (p .n) (now key) × (j ≤ p .t) × (length (now state) ≡ stateSize p) ⌝ }
-    ensures { λ r. ⌜ Drawn (roundDraws p (now (seed .entry)) (now (salt .entry)) (j + 1)) (roundState p (now (vs .entry)) (now (key .entry)) (λ _. now (seed .entry)) (now (salt .entry)) j) r (now (state .exit)) ⌝ }
+    requires { ⌜ Sound p × Vector 127 (matrixCount p) (now vs) × Vector 7 (p .n) (now key) × (j ≤ p .t)
+        × (length (now state) ≡ stateSize p) ⌝ }
+    ensures { λ r. ⌜ Drawn (roundDraws p (now (seed .entry)) (now (salt .entry)) (j + 1))
+        (roundState p (now (vs .entry)) (now (key .entry)) (λ _. now (seed .entry)) (now (salt .entry)) j) r
+        (now (state .exit)) ⌝ }
 {
     let n = p.n;
     let i = j + 1;
-    let mut es = [0u8; 264];
-    let mut us = [0u8; 264];
+    let mut es = [0u8; DRAWN_PLACES];
+    let mut us = [0u8; DRAWN_PLACES];
     if !expand::mask_exponents(p, seed, salt, i, &mut es) {
         return false;
     }
@@ -117,12 +133,16 @@ pub fn commit_all(
     salt: &[u8],
     states: &mut [u8],
 ) -> bool
-    requires { ⌜ Sound p × Vector 127 (matrixCount p) (now vs) × Vector 7 (p .n) (now key) × (length (now seeds) ≡ p .t * p .seed) × (length (now states) ≡ p .t * stateSize p) ⌝ }
-    ensures { λ r. ⌜ Drawn (flat (λ j. roundDraws p (seedAt p (now (seeds .entry)) j) (now (salt .entry)) (j + 1)) (p .t)) (flat (roundState p (now (vs .entry)) (now (key .entry)) (seedAt p (now (seeds .entry))) (now (salt .entry))) (p .t)) r (now (states .exit)) ⌝ }
+    requires { ⌜ Sound p × Vector 127 (matrixCount p) (now vs) × Vector 7 (p .n) (now key)
+        × (length (now seeds) ≡ p .t * p .seed) × (length (now states) ≡ p .t * stateSize p) ⌝ }
+    ensures { λ r. ⌜ Drawn (seedDraws p (seedAt p (now (seeds .entry))) (now (salt .entry)))
+        (flat (roundState p (now (vs .entry)) (now (key .entry)) (seedAt p (now (seeds .entry))) (now (salt .entry)))
+        (p .t))
+        r (now (states .exit)) ⌝ }
 {
     let t = p.t;
     let step = p.seed;
-    let size = 2 * p.n + 2 * p.digest;
+    let size = sizes::state_size(p);
     let mut from = 0;
     let mut at = 0;
     let mut j = 0;
@@ -139,22 +159,28 @@ pub fn commit_all(
     true
 }
 
-// One digest of every state goes in: the bytes from `offset` on.
-fn absorb_column(
-    sponge: Sponge,
-    states: &[u8],
+// The bytes from `offset` on, `width` of them, of each of `count` states of `size` bytes.
+struct Column {
     size: usize,
-    t: usize,
+    count: usize,
     offset: usize,
     width: usize,
-) -> Sponge
-    requires { ⌜ Ready sponge × (length (now states) ≡ t * size) × (offset + width ≤ size) ⌝ }
-    ensures { λ r. ⌜ Absorbs sponge (flat (λ j. take width (drop offset (take size (drop (size * j) (now (states .entry)))))) t) r ⌝ }
+}
+
+// A column of the states goes in.
+fn absorb_column(sponge: Sponge, states: &[u8], column: Column) -> Sponge
+    requires { ⌜ Ready sponge × (length (now states) ≡ column .count * column .size)
+        × (column .offset + column .width ≤ column .size) ⌝ }
+    ensures { λ r. ⌜ Absorbs sponge (columnOf column (now (states .entry))) r ⌝ }
 {
+    let size = column.size;
+    let count = column.count;
+    let offset = column.offset;
+    let width = column.width;
     let mut s = sponge;
     let mut at = 0;
     let mut j = 0;
-    while j < t {
+    while j < count {
         let end = at + size;
         let state = &states[at..end];
         let last = offset + width;
@@ -166,37 +192,46 @@ fn absorb_column(
     s
 }
 
-// The digest of a tag and one column.
-fn hash_column(
-    rate: usize,
-    tag: u8,
-    states: &[u8],
-    size: usize,
-    t: usize,
-    offset: usize,
-    width: usize,
-    out: &mut [u8],
-)
-    requires { ⌜ Rate rate × (length (now states) ≡ t * size) × (offset + width ≤ size) ⌝ }
-    ensures { λ r. ⌜ now (out .exit) ≡ shake rate (tag ∷ flat (λ j. take width (drop offset (take size (drop (size * j) (now (states .entry)))))) t) (length (now (out .entry))) ⌝ }
+// The digest of a tag and a column.
+fn hash_column(rate: usize, tag: u8, states: &[u8], column: Column, out: &mut [u8])
+    requires { ⌜ Rate rate × (length (now states) ≡ column .count * column .size)
+        × (column .offset + column .width ≤ column .size) ⌝ }
+    ensures { λ r. ⌜ now (out .exit) ≡ shake rate (tag ∷ columnOf column (now (states .entry)))
+        (length (now (out .entry))) ⌝ }
 {
     shake::squeeze(
-        absorb_column(hashing::tagged(rate, tag), states, size, t, offset, width),
+        absorb_column(hashing::tagged(rate, tag), states, column),
         out,
     );
 }
 
-// c: all c0(i), all c1(i), then both.
-pub fn commit_states(p: Params, states: &[u8], c: &mut [u8])
+// The aggregate of all c0(i).
+pub fn aggregate_states(p: Params, states: &[u8], root: &mut [u8])
+    requires { ⌜ Sound p × (length (now states) ≡ p .t * stateSize p) × (length (now root) ≡ p .digest) ⌝ }
+    ensures { λ r. ⌜ now (root .exit) ≡ aggregate p (c0s p (now (states .entry))) ⌝ }
+{
+    let column = Column {
+        size: sizes::state_size(p),
+        count: p.t,
+        offset: 2 * p.n,
+        width: p.digest,
+    };
+    hash_column(p.rate, 3, states, column, root);
+}
+
+// c from an aggregate of the c0(i) and all c1(i).
+pub fn join_states(p: Params, root: &[u8], states: &[u8], c: &mut [u8])
     requires { ⌜ Sound p × (length (now states) ≡ p .t * stateSize p) × (length (now c) ≡ p .digest) ⌝ }
-    ensures { λ r. ⌜ now (c .exit) ≡ commitment p (flat (λ j. c0Of p (stateAt p (now (states .entry)) j)) (p .t)) (flat (λ j. c1Of p (stateAt p (now (states .entry)) j)) (p .t)) ⌝ }
+    ensures { λ r. ⌜ now (c .exit) ≡ joined p (now (root .entry)) (c1s p (now (states .entry))) ⌝ }
 {
     let d = p.digest;
-    let both = 2 * p.n;
-    let size = both + 2 * d;
-    let mut c0 = [0u8; 64];
-    let mut c1 = [0u8; 64];
-    hash_column(p.rate, 3, states, size, p.t, both, d, &mut c0[..d]);
-    hash_column(p.rate, 4, states, size, p.t, both + d, d, &mut c1[..d]);
-    hashing::hash2(p.rate, 5, &c0[..d], &c1[..d], c);
+    let column = Column {
+        size: sizes::state_size(p),
+        count: p.t,
+        offset: 2 * p.n + d,
+        width: d,
+    };
+    let mut c1 = [0u8; DIGEST];
+    hash_column(p.rate, 4, states, column, &mut c1[..d]);
+    hashing::hash2(p.rate, 5, root, &c1[..d], c);
 }

@@ -1,5 +1,9 @@
 // The second step: the responses to the first challenges, and their digest h.
+use crate::sizes;
 use field::Value;
+use parameters::DIGEST;
+use parameters::PACKED_VALUES;
+use parameters::PLACES;
 use parameters::Params;
 use shake::Sponge;
 ghost use mathlib.Core.Path.{_≡_};
@@ -11,7 +15,7 @@ ghost use Rattle.packing.specs.Packing.{pack};
 ghost use Rattle.scheme.specs.Strings.{digest, string2};
 ghost use Rattle.scheme.specs.Round.{valuesSize};
 ghost use Rattle.packing.specs.Vector.{Vector};
-ghost use Rattle.signer.specs.State.{State, States, responseOf, responsesDigest};
+ghost use Rattle.signer.specs.State.{State, States, responseOf, hOf};
 
 // y of a round, packed.
 pub fn pack_response(p: Params, beta: Value, state: &[u8], out: &mut [u8])
@@ -20,7 +24,7 @@ pub fn pack_response(p: Params, beta: Value, state: &[u8], out: &mut [u8])
 {
     let n = p.n;
     let both = n + n;
-    let mut y = [0u8; 256];
+    let mut y = [0u8; PLACES];
     linear::respond(beta, &state[..n], &state[n..both], &mut y[..n]);
     expand::pack_values(&y[..n], out);
 }
@@ -32,8 +36,8 @@ fn absorb_response(p: Params, sponge: Sponge, beta: Value, state: &[u8]) -> Spon
 {
     let d = p.digest;
     let size = packing::packed_size(p.n, 7);
-    let mut packed = [0u8; 224];
-    let mut hashed = [0u8; 64];
+    let mut packed = [0u8; PACKED_VALUES];
+    let mut hashed = [0u8; DIGEST];
     pack_response(p, beta, state, &mut packed[..size]);
     hashing::hash1(p.rate, 2, &packed[..size], &mut hashed[..d]);
     shake::absorb(sponge, &hashed[..d])
@@ -42,10 +46,10 @@ fn absorb_response(p: Params, sponge: Sponge, beta: Value, state: &[u8]) -> Spon
 // h: all h(i).
 pub fn respond_all(p: Params, states: &[u8], betas: &[u8], h: &mut [u8])
     requires { ⌜ Sound p × States p (now states) × Vector 127 (p .t) (now betas) × (length (now h) ≡ p .digest) ⌝ }
-    ensures { λ r. ⌜ now (h .exit) ≡ responsesDigest p (now (states .entry)) (now (betas .entry)) ⌝ }
+    ensures { λ r. ⌜ now (h .exit) ≡ hOf p (now (states .entry)) (now (betas .entry)) ⌝ }
 {
     let t = p.t;
-    let size = 2 * p.n + 2 * p.digest;
+    let size = sizes::state_size(p);
     let mut s = hashing::tagged(p.rate, 6);
     let mut at = 0;
     let mut j = 0;

@@ -3,9 +3,14 @@ use crate::commit;
 use crate::respond;
 use crate::sizes;
 use crate::write;
+use parameters::DIGEST;
+use parameters::DRAWN_PLACES;
+use parameters::DRAWN_ROUNDS;
 use parameters::Params;
+use parameters::ROUNDS;
+use parameters::TWO_DIGESTS;
 ghost use mathlib.Core.Path.{_≡_};
-ghost use Prim.Native.Nat.{_+_, _*_};
+ghost use Prim.Native.Nat.{_*_};
 ghost use lib.ListN.{length};
 ghost use Rattle.outcome.specs.Answer.{Answers};
 ghost use Rattle.parameters.specs.Sound.{Sound};
@@ -13,7 +18,7 @@ ghost use Rattle.scheme.specs.Key.{matrixCount};
 ghost use Rattle.scheme.specs.Sign.{signatureSize, signatureFrom, signDraws, roundSeed};
 ghost use Rattle.scheme.specs.Entries.{Signs};
 ghost use Rattle.packing.specs.Vector.{Vector};
-ghost use Rattle.signer.specs.State.{stateSize, States, Replied, responsesDigest};
+ghost use Rattle.signer.specs.State.{stateSize, States, Replied};
 ghost use Rattle.signer.specs.Scratch.{SignScratch};
 
 // From c and the first challenges on: h, the second challenges, and the signature.
@@ -28,14 +33,17 @@ fn reply(
     msg: &[u8],
     sig: &mut [u8],
 ) -> u8
-    requires { ⌜ Sound p × Vector 7 (p .n) (now key) × (length (now seeds) ≡ p .t * p .seed) × States p (now states) × Vector 127 (p .t) (now betas) ⌝ }
-    requires { ⌜ (length (now c) ≡ p .digest) × (length (now salt) ≡ p .digest) × (length (now sig) ≡ signatureSize p) ⌝ }
-    ensures { λ r. ⌜ Replied p (now (key .entry)) (now (seeds .entry)) (now (states .entry)) (now (salt .entry)) (now (msg .entry)) (now (c .entry)) (now (betas .entry)) (responsesDigest p (now (states .entry)) (now (betas .entry))) (now (sig .entry)) r (now (sig .exit)) ⌝ }
+    requires { ⌜ Sound p × Vector 7 (p .n) (now key) × (length (now seeds) ≡ p .t * p .seed) × States p (now states)
+        × Vector 127 (p .t) (now betas) ⌝ }
+    requires { ⌜ (length (now c) ≡ p .digest) × (length (now salt) ≡ p .digest)
+        × (length (now sig) ≡ signatureSize p) ⌝ }
+    ensures { λ r. ⌜ Replied p (now (states .entry)) (now (betas .entry)) (now (key .entry)) (now (seeds .entry))
+        (now (salt .entry)) (now (msg .entry)) (now (c .entry)) (now (sig .entry)) r (now (sig .exit)) ⌝ }
 {
     let t = p.t;
     let d = p.digest;
-    let mut h = [0u8; 64];
-    let mut bs = [0u8; 512];
+    let mut h = [0u8; DIGEST];
+    let mut bs = [0u8; ROUNDS];
     respond::respond_all(p, states, betas, &mut h[..d]);
     if !expand::second_challenges(p, c, betas, &h[..d], salt, msg, &mut bs[..t]) {
         return 2;
@@ -67,21 +75,27 @@ fn sign_with(
     states: &mut [u8],
     sig: &mut [u8],
 ) -> u8
-    requires { ⌜ Sound p × Vector 127 (matrixCount p) (now vs) × Vector 7 (p .n) (now key) × (length (now salt) ≡ p .digest) ⌝ }
-    requires { ⌜ (length (now seeds) ≡ p .t * p .seed) × (length (now states) ≡ p .t * stateSize p) × (length (now sig) ≡ signatureSize p) ⌝ }
-    ensures { λ r. ⌜ Answers (signDraws p (now (vs .entry)) (now (key .entry)) (roundSeed p (now (master .entry)) (now (salt .entry))) (now (salt .entry)) (now (msg .entry)))
-        (signatureFrom p (now (vs .entry)) (now (key .entry)) (roundSeed p (now (master .entry)) (now (salt .entry))) (now (salt .entry)) (now (msg .entry)))
+    requires { ⌜ Sound p × Vector 127 (matrixCount p) (now vs) × Vector 7 (p .n) (now key)
+        × (length (now salt) ≡ p .digest) ⌝ }
+    requires { ⌜ (length (now seeds) ≡ p .t * p .seed) × (length (now states) ≡ p .t * stateSize p)
+        × (length (now sig) ≡ signatureSize p) ⌝ }
+    ensures { λ r. ⌜ Answers (signDraws p (now (vs .entry)) (now (key .entry))
+        (roundSeed p (now (master .entry)) (now (salt .entry))) (now (salt .entry)) (now (msg .entry)))
+        (signatureFrom p (now (vs .entry)) (now (key .entry)) (roundSeed p (now (master .entry)) (now (salt .entry)))
+        (now (salt .entry)) (now (msg .entry)))
         (now (sig .entry)) r (now (sig .exit)) ⌝ }
 {
     let t = p.t;
     let d = p.digest;
-    let mut c = [0u8; 64];
-    let mut betas = [0u8; 520];
+    let mut root = [0u8; DIGEST];
+    let mut c = [0u8; DIGEST];
+    let mut betas = [0u8; DRAWN_ROUNDS];
     hashing::hash2(p.rate, 9, master, salt, seeds);
     if !commit::commit_all(p, vs, key, seeds, salt, states) {
         return 2;
     }
-    commit::commit_states(p, states, &mut c[..d]);
+    commit::aggregate_states(p, states, &mut root[..d]);
+    commit::join_states(p, &root[..d], states, &mut c[..d]);
     if !expand::first_challenges(p, &c[..d], salt, msg, &mut betas) {
         return 2;
     }
@@ -112,8 +126,8 @@ pub fn sign(
     }
     let both = 2 * p.digest;
     let count = (n - p.k) * p.k;
-    let mut both_seeds = [0u8; 128];
-    let mut key = [0u8; 264];
+    let mut both_seeds = [0u8; TWO_DIGESTS];
+    let mut key = [0u8; DRAWN_PLACES];
     if !keygen::material(p, private, &mut both_seeds[..both], block, vs, &mut key) {
         return 2;
     }

@@ -1,10 +1,18 @@
-// The sizes that signing tests first.
-use crate::write;
+// Sizes: that of a round's state, and those that signing tests first.
 use parameters::Params;
 ghost use mathlib.Core.Path.{_≡_};
 ghost use Rattle.outcome.specs.Answer.{firstRefusal};
 ghost use Rattle.parameters.specs.Sound.{Sound};
-ghost use Rattle.signer.specs.Sizes.{sizeChecks};
+ghost use Rattle.scheme.specs.Sign.{signSizes};
+ghost use Rattle.signer.specs.State.{stateSize};
+
+// Bytes of the state of a round: two vectors and two digests.
+pub fn state_size(p: Params) -> usize
+    requires { ⌜ Sound p ⌝ }
+    ensures { λ r. ⌜ r ≡ stateSize p ⌝ }
+{
+    2 * p.n + 2 * p.digest
+}
 
 // The sizes of what is given and lent.
 pub fn check_sizes(
@@ -16,11 +24,10 @@ pub fn check_sizes(
     lent: usize,
 ) -> u8
     requires { ⌜ Sound p ⌝ }
-    ensures { λ r. ⌜ r ≡ firstRefusal (sizeChecks p (now (private .entry)) (now (master .entry)) (now (salt .entry)) (now (msg .entry)) lent) ⌝ }
+    ensures { λ r. ⌜ r ≡ firstRefusal (signSizes p (now (private .entry)) (now (master .entry)) (now (salt .entry))
+        (now (msg .entry)) lent) ⌝ }
 {
     let d = p.digest;
-    let ones = p.w;
-    let zeros = p.t - ones;
     if private.len() != d {
         return 1;
     }
@@ -30,10 +37,10 @@ pub fn check_sizes(
     if salt.len() != d {
         return 1;
     }
-    if 65536 < msg.len() {
+    if scheme::MESSAGE_MAX < msg.len() {
         return 1;
     }
-    if lent != 3 * d + ones * write::part_size(p, 1) + zeros * write::part_size(p, 0) {
+    if lent != scheme::signature_size(p) {
         return 1;
     }
     0

@@ -1,29 +1,21 @@
 // The last step: the signature's bytes. Each round writes its own part alone.
 use crate::respond;
+use crate::sizes;
 use field::Value;
+use parameters::PLACES;
 use parameters::Params;
 ghost use mathlib.Core.Path.{_≡_};
 ghost use mathlib.Core.List.{_++_};
 ghost use Prim.Native.Nat.{_+_, _*_, _<_};
-ghost use lib.ListN.{length, getD};
-ghost use Rattle.outcome.specs.Lists.{flat, total};
+ghost use lib.ListN.{length};
+ghost use Rattle.outcome.specs.Lists.{flat};
 ghost use Rattle.parameters.specs.Sound.{Sound};
 ghost use Rattle.packing.specs.Packing.{pack};
 ghost use Rattle.linear.specs.Linear.{transformation};
 ghost use Rattle.scheme.specs.Sign.{partSize};
+ghost use Rattle.scheme.specs.Verify.{offset};
 ghost use Rattle.packing.specs.Vector.{Vector};
 ghost use Rattle.signer.specs.State.{State, States, exponentsOf, c0Of, c1Of, responseOf, partOf, partAt};
-
-// Bytes of a round's part under its second challenge.
-pub fn part_size(p: Params, b: u8) -> usize
-    requires { ⌜ Sound p ⌝ }
-    ensures { λ r. ⌜ r ≡ partSize p b ⌝ }
-{
-    if b == 1 {
-        return p.seed + p.digest;
-    }
-    packing::packed_size(p.n, 7) + packing::packed_size(p.n, 3) + p.digest
-}
 
 // Under 1: the seed, and c0(i).
 fn write_seed(p: Params, seed: &[u8], state: &[u8], part: &mut [u8])
@@ -39,8 +31,11 @@ fn write_seed(p: Params, seed: &[u8], state: &[u8], part: &mut [u8])
 
 // Under 0: y, σ, and c1(i).
 fn write_opening(p: Params, key: &[u8], beta: Value, state: &[u8], part: &mut [u8])
-    requires { ⌜ Sound p × Vector 7 (p .n) (now key) × (beta .0 < 127) × State p (now state) × (length (now part) ≡ partSize p 0) ⌝ }
-    ensures { λ r. ⌜ now (part .exit) ≡ pack 7 (responseOf p (beta .0) (now (state .entry))) ++ pack 3 (transformation (now (key .entry)) (exponentsOf p (now (state .entry)))) ++ c1Of p (now (state .entry)) ⌝ }
+    requires { ⌜ Sound p × Vector 7 (p .n) (now key) × (beta .0 < 127) × State p (now state)
+        × (length (now part) ≡ partSize p 0) ⌝ }
+    ensures { λ r. ⌜ now (part .exit) ≡ pack 7 (responseOf p (beta .0) (now (state .entry)))
+        ++ pack 3 (transformation (now (key .entry)) (exponentsOf p (now (state .entry))))
+        ++ c1Of p (now (state .entry)) ⌝ }
 {
     let n = p.n;
     let both = n + n;
@@ -48,7 +43,7 @@ fn write_opening(p: Params, key: &[u8], beta: Value, state: &[u8], part: &mut [u
     let end = at + p.digest;
     let cut = packing::packed_size(n, 7);
     let last = cut + packing::packed_size(n, 3);
-    let mut sigma = [0u8; 256];
+    let mut sigma = [0u8; PLACES];
     linear::transform(key, &state[n..both], &mut sigma[..n]);
     respond::pack_response(p, beta, state, &mut part[..cut]);
     expand::pack_exponents(&sigma[..n], &mut part[cut..last]);
@@ -57,8 +52,10 @@ fn write_opening(p: Params, key: &[u8], beta: Value, state: &[u8], part: &mut [u
 
 // The part of a round.
 fn write_part(p: Params, key: &[u8], beta: Value, b: u8, seed: &[u8], state: &[u8], part: &mut [u8])
-    requires { ⌜ Sound p × Vector 7 (p .n) (now key) × (beta .0 < 127) × (length (now seed) ≡ p .seed) × State p (now state) × (length (now part) ≡ partSize p b) ⌝ }
-    ensures { λ r. ⌜ now (part .exit) ≡ partOf p (now (key .entry)) (beta .0) b (now (seed .entry)) (now (state .entry)) ⌝ }
+    requires { ⌜ Sound p × Vector 7 (p .n) (now key) × (beta .0 < 127) × (length (now seed) ≡ p .seed)
+        × State p (now state) × (length (now part) ≡ partSize p b) ⌝ }
+    ensures { λ r. ⌜ now (part .exit) ≡ partOf p (now (key .entry)) (beta .0) b (now (seed .entry))
+        (now (state .entry)) ⌝ }
 {
     if b == 1 {
         write_seed(p, seed, state, part);
@@ -77,13 +74,15 @@ fn write_parts(
     bs: &[u8],
     parts: &mut [u8],
 )
-    requires { ⌜ Sound p × Vector 7 (p .n) (now key) × (length (now seeds) ≡ p .t * p .seed) × States p (now states) × Vector 127 (p .t) (now betas) ⌝ }
-    requires { ⌜ (length (now bs) ≡ p .t) × (length (now parts) ≡ total (λ j. partSize p (getD (now bs) j 0)) (p .t)) ⌝ }
-    ensures { λ r. ⌜ now (parts .exit) ≡ flat (partAt p (now (key .entry)) (now (seeds .entry)) (now (states .entry)) (now (betas .entry)) (now (bs .entry))) (p .t) ⌝ }
+    requires { ⌜ Sound p × Vector 7 (p .n) (now key) × (length (now seeds) ≡ p .t * p .seed) × States p (now states)
+        × Vector 127 (p .t) (now betas) ⌝ }
+    requires { ⌜ (length (now bs) ≡ p .t) × (length (now parts) ≡ offset p (now bs) (p .t)) ⌝ }
+    ensures { λ r. ⌜ now (parts .exit) ≡ flat (partAt p (now (states .entry)) (now (betas .entry)) (now (key .entry))
+        (now (seeds .entry)) (now (bs .entry))) (p .t) ⌝ }
 {
     let t = p.t;
     let step = p.seed;
-    let size = 2 * p.n + 2 * p.digest;
+    let size = sizes::state_size(p);
     let mut from = 0;
     let mut at = 0;
     let mut start = 0;
@@ -92,7 +91,7 @@ fn write_parts(
         let b = bs[j];
         let to = from + step;
         let end = at + size;
-        let stop = start + part_size(p, b);
+        let stop = start + scheme::part_size(p, b);
         write_part(
             p,
             key,
@@ -122,10 +121,13 @@ pub fn write_signature(
     bs: &[u8],
     sig: &mut [u8],
 )
-    requires { ⌜ Sound p × Vector 7 (p .n) (now key) × (length (now seeds) ≡ p .t * p .seed) × States p (now states) × Vector 127 (p .t) (now betas) ⌝ }
+    requires { ⌜ Sound p × Vector 7 (p .n) (now key) × (length (now seeds) ≡ p .t * p .seed) × States p (now states)
+        × Vector 127 (p .t) (now betas) ⌝ }
     requires { ⌜ (length (now salt) ≡ p .digest) × (length (now c) ≡ p .digest) × (length (now h) ≡ p .digest) ⌝ }
-    requires { ⌜ (length (now bs) ≡ p .t) × (length (now sig) ≡ 3 * p .digest + total (λ j. partSize p (getD (now bs) j 0)) (p .t)) ⌝ }
-    ensures { λ r. ⌜ now (sig .exit) ≡ now (salt .entry) ++ now (c .entry) ++ now (h .entry) ++ flat (partAt p (now (key .entry)) (now (seeds .entry)) (now (states .entry)) (now (betas .entry)) (now (bs .entry))) (p .t) ⌝ }
+    requires { ⌜ (length (now bs) ≡ p .t) × (length (now sig) ≡ 3 * p .digest + offset p (now bs) (p .t)) ⌝ }
+    ensures { λ r. ⌜ now (sig .exit) ≡ now (salt .entry) ++ now (c .entry) ++ now (h .entry)
+        ++ flat (partAt p (now (states .entry)) (now (betas .entry)) (now (key .entry)) (now (seeds .entry))
+        (now (bs .entry))) (p .t) ⌝ }
 {
     let d = p.digest;
     let two = d + d;

@@ -1,7 +1,7 @@
 -- `make_key`: sizes, then the draws, then the key is written. Assumes nothing.
 use mathlib.Core.Path.{_∙_, ap, sym, refl}
 use mathlib.Core.Bool.{Bool}
-use Prim.Native.Nat.{ℕ, _+_, _*_}
+use Prim.Native.Nat.{ℕ, _*_}
 use native.Mathlib.Omega.{arith}
 use borrow.Author.Needs.{needs}
 use borrow.Author.Tests.{not-true, not-false, ne-eqb, eq-eqb}
@@ -23,23 +23,21 @@ unfolding makeKeyChecks
 returns c =
     refused 0 (rw (ne-eqb _ _ (c .if1 .taken))) refl
 
-sub-packed-size : tie.Need-sub-packed-size
-sub-packed-size c = search needs
-
-packed-size-requires : tie.Need-packed-size-requires
-packed-size-requires c κs = search needs
-
-add-if2 : tie.Need-add-if2
-add-if2 c = search needs
+key-size-requires : tie.Need-key-size-requires
+key-size-requires c κs = search needs
 
 returns-2 : tie.Need-returns-2
 unfolding makeKeyChecks
 returns-2 c =
-    let start = c .before .before .before .before .before .before .before in
-    let if1 = c .before .before .if1 in
+    let after-if1 = c .before .before in
+    let start = after-if1 .before .before .before .before .before in
     let p = start .args .p in
-    let size-is = c .before .packed-size .ensures in
-    refused 0 (rw (eq-eqb (length (start .args .private .now)) (p .digest) (if1 .left), ne-eqb (length (start .args .key .now)) (keySize p) (λ e. c .if2 .taken (omega (arith, size-is)))) refl) refl
+    refused 0
+    (rw (
+      eq-eqb (length (start .args .private .now)) (p .digest) (after-if1 .if1 .left),
+      ne-eqb (length (start .args .key .now)) (keySize p) (λ e. c .if2 .taken (e ∙ sym (c .before .key-size .ensures))),
+    ) refl)
+    refl
 
 mul-both : tie.Need-mul-both
 mul-both c = search needs
@@ -79,14 +77,16 @@ same-length-2 c = search needs
 
 returns-3 : tie.Need-returns-3
 returns-3 c =
-    let start = c .before .before .before .before .before .before .before .before .before .before .before .before .before .before .before .before .before .before .before in
-    let if1 = c .before .before .before .before .before .before .before .before .before .before .before .before .before .before .if1 in
-    let if2 = c .before .before .before .before .before .before .before .before .before .before .before .before .if2 in
-    let packed-size-call = c .before .before .before .before .before .before .before .before .before .before .before .before .before .packed-size in
-    let got = c .before .before .before .before .before .before .before .material in
+    let after-material = c .before .before .before .before .before .before .before in
+    let after-if2 = after-material .before .before .before .before .before in
+    let after-key-size = after-if2 .before in
+    let after-if1 = after-key-size .before in
+    let start = after-if1 .before .before .before .before .before in
     refused 1
-    (sized-checks (start .args .p) (start .args .private .now) _ (if1 .left) (if2 .left ∙ ap (λ (n : ℕ). start .args .p .digest + n) (packed-size-call .ensures))
-    ∙ got .ensures .answer ∙ ap (λ (ok : Bool). pick ok 0 2) (not-true (got .result) (c .if3 .taken)))
+    (sized-checks (start .args .p) (start .args .private .now) _ (after-if1 .if1 .left)
+    (after-if2 .if2 .left ∙ after-key-size .key-size .ensures)
+    ∙ after-material .material .ensures .answer ∙ ap (λ (ok : Bool). pick ok 0 2)
+    (not-true (after-material .material .result) (c .if3 .taken)))
     refl
 
 sub-write-key : tie.Need-sub-write-key
@@ -97,47 +97,52 @@ part-write-key-start c = search needs
 
 part-write-key-end : tie.Need-part-write-key-end
 part-write-key-end c =
-    let start = c .before .before .before .before .before .before .before .before .before .before .before .before .before .before .before .before .before .before .before .before in
-    let material-call = c .before .before .before .before .before .before .before .before .material in
-    lent-within _ (replicate 128 0) (material-call .last .1 .1 .0) (omega (arith, start .pre .0 .digest-fits)) (material-call .kept .1 .1 .0)
+    let after-material = c .before .before .before .before .before .before .before .before in
+    let start = after-material .before .before .before .before .before .before .before .before .before .before .before .before in
+    lent-within _ (replicate 128 0) (after-material .material .last .1 .1 .0)
+    (omega (arith, start .pre .0 .digest-fits)) (after-material .material .kept .1 .1 .0)
 
 slice-reshare-prefix-write-key : tie.Need-slice-reshare-prefix-write-key
 slice-reshare-prefix-write-key c = search needs
 
 slice-aggregate-write-key : tie.Need-slice-aggregate-write-key
 slice-aggregate-write-key c =
-    let start = c .before .before .before .before .before .before .before .before .before .before .before .before .before .before .before .before .before .before .before .before .before .before in
-    let material-call = c .before .before .before .before .before .before .before .before .before .before .material in
-    sym (length-take-le _ _ (omega (arith, material-call .kept .1 .1 .1 .1 .0, start .pre .2)))
+    let after-material = c .before .before .before .before .before .before .before .before .before .before in
+    let start = after-material .before .before .before .before .before .before .before .before .before .before .before .before in
+    sym (length-take-le _ _ (omega (arith, after-material .material .kept .1 .1 .1 .1 .0, start .pre .2)))
 
 array-share-prefix-es : tie.Need-array-share-prefix-es
 array-share-prefix-es c = search needs
 
 slice-aggregate-write-key-2 : tie.Need-slice-aggregate-write-key-2
 slice-aggregate-write-key-2 c =
-    let start = c .before .before .before .before .before .before .before .before .before .before .before .before .before .before .before .before .before .before .before .before .before .before .before in
-    let material-call = c .before .before .before .before .before .before .before .before .before .before .before .material in
-    sym (length-take-le _ _ (omega (arith, material-call .kept .1 .1 .1 .1 .1 .0, start .pre .0 .n-fits)))
+    let after-material = c .before .before .before .before .before .before .before .before .before .before .before in
+    let start = after-material .before .before .before .before .before .before .before .before .before .before .before .before in
+    sym (length-take-le _ _ (omega (arith, after-material .material .kept .1 .1 .1 .1 .1 .0, start .pre .0 .n-fits)))
 
 write-key-requires : tie.Need-write-key-requires
 write-key-requires c κs =
-    let start = c .before .before .before .before .before .before .before .before .before .before .before .before .before .before .before .before .before .before .before .before .before .before .before .before in
-    let if3 = c .before .before .before .before .before .if3 in
-    let if2 = c .before .before .before .before .before .before .before .before .before .before .before .before .before .before .before .before .before .if2 in
-    let packed-size-call = c .before .before .before .before .before .before .before .before .before .before .before .before .before .before .before .before .before .before .packed-size in
-    let got = c .before .before .before .before .before .before .before .before .before .before .before .before .material in
+    let after-if3 = c .before .before .before .before .before in
+    let after-material = after-if3 .before .before .before .before .before .before .before in
+    let after-if2 = after-material .before .before .before .before .before in
+    let after-key-size = after-if2 .before in
+    let start = after-key-size .before .before .before .before .before .before in
     let p = start .args .p in
     let private = start .args .private .now in
-    let ok = not-false (got .result) (if3 .left) in
-    let drawn = got .ensures .answer ∙ ap (λ (b : Bool). pick b 0 2) ok in
-    let within = lent-within (2 * p .digest) (replicate 128 0) (got .last .1 .1 .0) (omega (arith, start .pre .0 .digest-fits)) (got .kept .1 .1 .0) in (
+    let ok = not-false (after-material .material .result) (after-if3 .if3 .left) in
+    let drawn = after-material .material .ensures .answer ∙ ap (λ (b : Bool). pick b 0 2) ok in
+    let within =
+    lent-within (2 * p .digest) (replicate 128 0) (after-material .material .last .1 .1 .0)
+    (omega (arith, start .pre .0 .digest-fits)) (after-material .material .kept .1 .1 .0)
+    in (
       start .pre .0,
       mid-len (p .digest) (2 * p .digest) _ within ∙ omega arith,
-      length-take-le _ _ (omega (arith, got .kept .1 .1 .1 .1 .0, start .pre .2)),
-      rw (got .ensures .matrix-held ok) (kept-below 127 _ (below-matrix p _)),
-      length-take-le _ _ (omega (arith, got .kept .1 .1 .1 .1 .1 .0, start .pre .0 .n-fits)),
-      rw (got .ensures .exponents-held ok) (kept-below 7 _ (read p (start .pre .0) private drawn .ranged)),
-      if2 .left ∙ ap (λ (n : ℕ). p .digest + n) (packed-size-call .ensures),
+      length-take-le _ _ (omega (arith, after-material .material .kept .1 .1 .1 .1 .0, start .pre .2)),
+      rw (after-material .material .ensures .matrix-held ok) (kept-below 127 _ (below-matrix p _)),
+      length-take-le _ _ (omega (arith, after-material .material .kept .1 .1 .1 .1 .1 .0, start .pre .0 .n-fits)),
+      rw (after-material .material .ensures .exponents-held ok)
+          (kept-below 7 _ (read p (start .pre .0) private drawn .ranged)),
+      after-if2 .if2 .left ∙ after-key-size .key-size .ensures,
     )
 
 same-length-3 : tie.Need-same-length-3
@@ -151,32 +156,33 @@ same-length-5 c = search needs
 
 returns-4 : tie.Need-returns-4
 returns-4 c =
-    let start = c .before .before .before .before .before .before .before .before .before .before .before .before .before .before .before .before .before .before .before .before .before .before .before .before .before .before .before in
-    let if3 = c .before .before .before .before .before .before .before .before .if3 in
-    let if1 = c .before .before .before .before .before .before .before .before .before .before .before .before .before .before .before .before .before .before .before .before .before .before .if1 in
-    let if2 = c .before .before .before .before .before .before .before .before .before .before .before .before .before .before .before .before .before .before .before .before .if2 in
-    let packed-size-call = c .before .before .before .before .before .before .before .before .before .before .before .before .before .before .before .before .before .before .before .before .before .packed-size in
-    let write-key-call = c .before .before .write-key in
-    let got = c .before .before .before .before .before .before .before .before .before .before .before .before .before .before .before .material in
+    let after-write-key = c .before .before in
+    let after-if3 = after-write-key .before .before .before .before .before .before in
+    let after-material = after-if3 .before .before .before .before .before .before .before in
+    let after-if2 = after-material .before .before .before .before .before in
+    let after-key-size = after-if2 .before in
+    let after-if1 = after-key-size .before in
+    let start = after-if1 .before .before .before .before .before in
     let p = start .args .p in
     let private = start .args .private .now in
-    let ok = not-false (got .result) (if3 .left) in
-    let both-fit = length-take-le {A = ℕ} (2 * p .digest) (replicate 128 0) (omega (arith, start .pre .0 .digest-fits)) in
+    let ok = not-false (after-material .material .result) (after-if3 .if3 .left) in
+    let both-fit =
+    length-take-le {A = ℕ} (2 * p .digest) (replicate 128 0) (omega (arith, start .pre .0 .digest-fits))
+    in
     done
-    (sized-checks p private _ (if1 .left) (if2 .left ∙ ap (λ (n : ℕ). p .digest + n) (packed-size-call .ensures))
-    ∙ got .ensures .answer ∙ ap (λ (b : Bool). pick b 0 2) ok)
-    (write-key-call .ensures
-    ∙ key-made p private (public-lent p private (got .ensures .seeds-held) (got .kept .1 .1 .0 ∙ both-fit) (drop (2 * p .digest) (replicate 128 0)))
-    (got .ensures .matrix-held ok) (got .ensures .exponents-held ok))
+    (sized-checks p private _ (after-if1 .if1 .left) (after-if2 .if2 .left ∙ after-key-size .key-size .ensures)
+    ∙ after-material .material .ensures .answer ∙ ap (λ (b : Bool). pick b 0 2) ok)
+    (after-write-key .write-key .ensures
+    ∙ key-made p private (public-lent p private (after-material .material .ensures .seeds-held)
+    (after-material .material .kept .1 .1 .0 ∙ both-fit) (drop (2 * p .digest) (replicate 128 0)))
+    (after-material .material .ensures .matrix-held ok) (after-material .material .ensures .exponents-held ok))
 
 pub make-key-spec : {M : Type 1} → statement M
 make-key-spec =
     tie.close
     (tie.spec
     returns
-    sub-packed-size
-    packed-size-requires
-    add-if2
+    key-size-requires
     returns-2
     mul-both
     sub-count

@@ -34,22 +34,24 @@ same-length-3 c = search needs
 
 returns : tie.Need-returns
 returns c =
-    let start = c .before .before .before .before .before .before .before .before .before .before .before .before .before .before .before .before .before .before .before in
-    let matrix-call = c .before .before .before .before .before .matrix in
-    let hash = c .before .before .before .before .before .before .before .before .before .before .before .before .hash1 in
+    let after-matrix = c .before .before .before .before .before in
+    let after-hash1 = after-matrix .before .before .before .before .before .before .before in
+    let start = after-hash1 .before .before .before .before .before .before .before in
     let p = start .args .p in
     let private = start .args .private .now in
-    let held = seeds-made p private (start .pre .1) (hash .ensures) in
-    matrix-short p private held (public-part p private held) (not-true _ (c .if1 .taken)) (matrix-call .ensures)
+    let held = seeds-made p private (start .pre .1) (after-hash1 .hash1 .ensures) in
+    matrix-short p private held (public-part p private held) (not-true _ (c .if1 .taken))
+    (after-matrix .matrix .ensures)
 
 slice-reshare-prefix-key-exponents : tie.Need-slice-reshare-prefix-key-exponents
 slice-reshare-prefix-key-exponents c = search needs
 
 slice-aggregate-key-exponents : tie.Need-slice-aggregate-key-exponents
 slice-aggregate-key-exponents c =
-    let start = c .before .before .before .before .before .before .before .before .before .before .before .before .before .before .before .before .before .before .before .before in
-    let hash1-call = c .before .before .before .before .before .before .before .before .before .before .before .before .before .hash1 in
-    sym (length-take-le _ _ (omega (arith, hash1-call .kept .1 .1 .1 .0, start .pre .1)))
+    let after-matrix = c .before .before .before .before .before .before in
+    let after-hash1 = after-matrix .before .before .before .before .before .before .before in
+    let start = after-hash1 .before .before .before .before .before .before .before in
+    sym (length-take-le _ _ (omega (arith, after-hash1 .hash1 .kept .1 .1 .1 .0, start .pre .1)))
 
 key-exponents-requires : tie.Need-key-exponents-requires
 key-exponents-requires c κs = search needs
@@ -68,16 +70,16 @@ same-length-7 c = search needs
 
 returns-2 : tie.Need-returns-2
 returns-2 c =
-    let start = c .before .before .before .before .before .before .before .before .before .before .before .before .before .before .before .before .before .before .before .before .before .before .before .before in
-    let if1 = c .before .before .before .before .before .if1 in
-    let matrix-call = c .before .before .before .before .before .before .before .before .before .before .matrix in
-    let key-exponents-call = c .before .before .key-exponents in
-    let hash = c .before .before .before .before .before .before .before .before .before .before .before .before .before .before .before .before .before .hash1 in
+    let after-key-exponents = c .before .before in
+    let after-if1 = after-key-exponents .before .before .before in
+    let after-matrix = after-if1 .before .before .before .before .before in
+    let after-hash1 = after-matrix .before .before .before .before .before .before .before in
+    let start = after-hash1 .before .before .before .before .before .before .before in
     let p = start .args .p in
     let private = start .args .private .now in
-    let held = seeds-made p private (start .pre .1) (hash .ensures) in
+    let held = seeds-made p private (start .pre .1) (after-hash1 .hash1 .ensures) in
     exponents-drawn p private held (public-part p private held) (secret-part p private held)
-    (not-false _ (if1 .left)) (matrix-call .ensures) (key-exponents-call .ensures)
+    (not-false _ (after-if1 .if1 .left)) (after-matrix .matrix .ensures) (after-key-exponents .key-exponents .ensures)
 
 pub material-spec : {M : Type 1} → statement M
 material-spec =

@@ -37,13 +37,15 @@ powers-requires c κs =
 array-share-prefix-x : tie.Need-array-share-prefix-x
 array-share-prefix-x c =
     let start = c .before .before .before .before .before .before .before in
-    lent-within (start .args .p .n) (replicate 256 0) (c .before .powers .last .1 .0) (start .pre .0 .n-fits) (c .before .powers .kept .1 .0)
+    lent-within (start .args .p .n) (replicate 256 0) (c .before .powers .last .1 .0) (start .pre .0 .n-fits)
+    (c .before .powers .kept .1 .0)
 
 slice-aggregate-syndrome : tie.Need-slice-aggregate-syndrome
 slice-aggregate-syndrome c =
-    let start = c .before .before .before .before .before .before .before .before in
-    let powers-call = c .before .before .powers in
-    lent-length (start .args .p .n) (replicate 256 0) (powers-call .last .1 .0) (start .pre .0 .n-fits) (powers-call .kept .1 .0)
+    let after-powers = c .before .before in
+    let start = after-powers .before .before .before .before .before .before in
+    lent-length (start .args .p .n) (replicate 256 0) (after-powers .powers .last .1 .0) (start .pre .0 .n-fits)
+    (after-powers .powers .kept .1 .0)
 
 array-borrow-prefix-s : tie.Need-array-borrow-prefix-s
 array-borrow-prefix-s c = search needs
@@ -58,12 +60,18 @@ slice-aggregate-syndrome-2 c =
 
 syndrome-requires : tie.Need-syndrome-requires
 syndrome-requires c κs =
-    let start = c .before .before .before .before .before .before .before .before .before in
-    let made = c .before .before .before .powers in
+    let after-powers = c .before .before .before in
+    let start = after-powers .before .before .before .before .before .before in
     let p = start .args .p in
     let rows = length-take-le {A = ℕ} (p .n - p .k) (replicate 256 0) (rows-fit start) in
-    let long = lent-length (p .n) (replicate 256 0) (made .last .1 .0) (start .pre .0 .n-fits) (made .kept .1 .0) in
-    let held = lent-part (p .n) (replicate 256 0) (made .last .1 .0) (start .pre .0 .n-fits) (made .kept .1 .0) ∙ made .ensures in (
+    let long =
+    lent-length (p .n) (replicate 256 0) (after-powers .powers .last .1 .0) (start .pre .0 .n-fits)
+    (after-powers .powers .kept .1 .0)
+    in
+    let held =
+    lent-part (p .n) (replicate 256 0) (after-powers .powers .last .1 .0) (start .pre .0 .n-fits)
+    (after-powers .powers .kept .1 .0) ∙ after-powers .powers .ensures
+    in (
       sym long ∙ omega (arith, rows, start .pre .0 .k≤n),
       start .pre .2 ∙ mul-comm (p .n - p .k) (p .k) ∙ ap (λ (r : ℕ). p .k * r) (sym rows),
       rw (sym long) (omega (arith, start .pre .0 .n-fits)),
@@ -86,15 +94,17 @@ copy-requires c κs =
 
 array-share-prefix-s : tie.Need-array-share-prefix-s
 array-share-prefix-s c =
-    let start = c .before .before .before .before .before .before .before .before .before .before .before .before .before .before .before in
-    let syndrome-call = c .before .before .before .before .before .syndrome in
-    lent-within _ (replicate 256 0) (syndrome-call .last .1 .1 .1 .0) (rows-fit start) (syndrome-call .kept .1 .1 .1 .0)
+    let after-syndrome = c .before .before .before .before .before in
+    let start = after-syndrome .before .before .before .before .before .before .before .before .before .before in
+    lent-within _ (replicate 256 0) (after-syndrome .syndrome .last .1 .1 .1 .0) (rows-fit start)
+    (after-syndrome .syndrome .kept .1 .1 .1 .0)
 
 slice-aggregate-pack-values : tie.Need-slice-aggregate-pack-values
 slice-aggregate-pack-values c =
-    let start = c .before .before .before .before .before .before .before .before .before .before .before .before .before .before .before .before in
-    let syndrome-call = c .before .before .before .before .before .before .syndrome in
-    lent-length _ (replicate 256 0) (syndrome-call .last .1 .1 .1 .0) (rows-fit start) (syndrome-call .kept .1 .1 .1 .0)
+    let after-syndrome = c .before .before .before .before .before .before in
+    let start = after-syndrome .before .before .before .before .before .before .before .before .before .before in
+    lent-length _ (replicate 256 0) (after-syndrome .syndrome .last .1 .1 .1 .0) (rows-fit start)
+    (after-syndrome .syndrome .kept .1 .1 .1 .0)
 
 sub-pack-values : tie.Need-sub-pack-values
 sub-pack-values c = search needs
@@ -107,15 +117,22 @@ part-pack-values-end c = search needs
 
 pack-values-requires : tie.Need-pack-values-requires
 pack-values-requires c κs =
-    let start = c .before .before .before .before .before .before .before .before .before .before .before .before .before .before .before .before .before in
-    let copy-call = c .before .before .before .before .copy in
-    let made = c .before .before .before .before .before .before .before .syndrome in
+    let after-copy = c .before .before .before .before in
+    let after-syndrome = after-copy .before .before .before in
+    let start = after-syndrome .before .before .before .before .before .before .before .before .before .before in
     let p = start .args .p in
-    let held = lent-part (p .n - p .k) (replicate 256 0) (made .last .1 .1 .1 .0) (rows-fit start) (made .kept .1 .1 .1 .0) ∙ made .ensures in
-    let long = lent-length (p .n - p .k) (replicate 256 0) (made .last .1 .1 .1 .0) (rows-fit start) (made .kept .1 .1 .1 .0) in
+    let held =
+    lent-part (p .n - p .k) (replicate 256 0) (after-syndrome .syndrome .last .1 .1 .1 .0) (rows-fit start)
+    (after-syndrome .syndrome .kept .1 .1 .1 .0) ∙ after-syndrome .syndrome .ensures
+    in
+    let long =
+    lent-length (p .n - p .k) (replicate 256 0) (after-syndrome .syndrome .last .1 .1 .1 .0) (rows-fit start)
+    (after-syndrome .syndrome .kept .1 .1 .1 .0)
+    in
     let front = length-take-le (p .digest) (start .args .key .now) (omega (arith, start .pre .6)) in (
       rw held (kept-below 127 _ (below-syndrome _ _ _)),
-      length-last (p .digest) (copy-call .last .0) (start .args .key .now) [] (copy-call .kept .0 ∙ front) (omega (arith, start .pre .6))
+      length-last (p .digest) (after-copy .copy .last .0) (start .args .key .now) [] (after-copy .copy .kept .0 ∙ front)
+          (omega (arith, start .pre .6))
           ∙ omega (arith, start .pre .6)
           ∙ ap (λ (n : ℕ). size 7 n) long,
     )
@@ -125,22 +142,27 @@ same-length c = search needs
 
 returns : tie.Need-returns
 returns c =
-    let start = c .before .before .before .before .before .before .before .before .before .before .before .before .before .before .before .before .before .before .before .before in
-    let pack-values-call = c .before .before .pack-values in
-    let raised = c .before .before .before .before .before .before .before .before .before .before .before .before .before .before .powers in
-    let made = c .before .before .before .before .before .before .before .before .before .before .syndrome in
-    let copied = c .before .before .before .before .before .before .before .copy in
+    let after-pack-values = c .before .before in
+    let after-copy = after-pack-values .before .before .before .before .before in
+    let after-syndrome = after-copy .before .before .before in
+    let after-powers = after-syndrome .before .before .before .before in
+    let start = after-powers .before .before .before .before .before .before in
     let p = start .args .p in
     let front = length-take-le (p .digest) (start .args .key .now) (omega (arith, start .pre .6)) in
-    let powers-held = lent-part (p .n) (replicate 256 0) (raised .last .1 .0) (start .pre .0 .n-fits) (raised .kept .1 .0) ∙ raised .ensures in
+    let powers-held =
+    lent-part (p .n) (replicate 256 0) (after-powers .powers .last .1 .0) (start .pre .0 .n-fits)
+    (after-powers .powers .kept .1 .0) ∙ after-powers .powers .ensures
+    in
     let held =
-    lent-part (p .n - p .k) (replicate 256 0) (made .last .1 .1 .1 .0) (rows-fit start) (made .kept .1 .1 .1 .0)
-    ∙ made .ensures
+    lent-part (p .n - p .k) (replicate 256 0) (after-syndrome .syndrome .last .1 .1 .1 .0) (rows-fit start)
+    (after-syndrome .syndrome .kept .1 .1 .1 .0)
+    ∙ after-syndrome .syndrome .ensures
     ∙ ap (λ (x : List ℕ). syndrome (p .k) (start .args .vs .now) x) powers-held
     in
-    let packed = pack-values-call .ensures ∙ ap (λ (s : List ℕ). pack 7 s) held in
-    put-last (p .digest) (copied .last .0) (start .args .key .now) (pack-values-call .last .1 .0) (copied .kept .0 ∙ front) (omega (arith, start .pre .6))
-    ∙ (λ i. copied .ensures i ++ packed i)
+    let packed = after-pack-values .pack-values .ensures ∙ ap (λ (s : List ℕ). pack 7 s) held in
+    put-last (p .digest) (after-copy .copy .last .0) (start .args .key .now)
+    (after-pack-values .pack-values .last .1 .0) (after-copy .copy .kept .0 ∙ front) (omega (arith, start .pre .6))
+    ∙ (λ i. after-copy .copy .ensures i ++ packed i)
 
 pub write-key-spec : {M : Type 1} → statement M
 write-key-spec =

@@ -6,27 +6,37 @@ use native.Mathlib.Omega.{arith}
 use lib.ListN.{length, take, drop}
 use Rattle.outcome.specs.Lists.{flat}
 use Rattle.shake.specs.Fold.{Absorbs}
+use Rattle.signer.specs.State.{columnAt}
 use Rattle.signer.proofs.Loops.{cut, length-cut, part-within, step-on, part-at, flat-more}
 use Rattle.signer.proofs.Sponge.{absorbs-none, absorbs-more, absorbs-to}
 use Rattle.signer.proofs.commit.absorb_column.Statement.{statement}
 use Rattle.signer.proofs.commit.absorb_column.Tie as tie
 
 abbrev Inv-loop : tie.InvT-loop
-Inv-loop states size t offset width s₀ at₀ j₀ s at j =
-    (j ≤ t) × (at ≡ size * j) × Absorbs s₀ (flat (λ i. take width (drop offset (take size (drop (size * i) states)))) j) s
+Inv-loop states size count offset width s₀ at₀ j₀ s at j =
+    (j ≤ count) × (at ≡ size * j) × Absorbs s₀ (flat (columnAt size offset width states) j) s
 
 abbrev μ-loop : tie.MeasureT-loop
-μ-loop states size t offset width s₀ at₀ j₀ s at j = t - j
+μ-loop states size count offset width s₀ at₀ j₀ s at j = count - j
 
 loop-holds : tie.Need-loop-holds Inv-loop μ-loop
 unfolding flat
-loop-holds c =
-    (omega arith, omega arith, absorbs-none (c .before .pre .0))
+loop-holds c = (omega arith, omega arith, absorbs-none (c .before .pre .0))
+
+-- the state of a turn lies within all states
+inside : (c : tie.In-loop Inv-loop μ-loop) →
+    let at-loop = c .before in
+    let start = at-loop .before .before in
+    at-loop .loop .at + start .args .column .size ≤ length (start .args .states .now)
+inside c =
+    let at-loop = c .before in
+    let now = at-loop .loop in
+    let start = at-loop .before .before in
+    let column = start .args .column in
+    part-within (now .j) (column .count) (column .size) (now .at) (c .loop-test .taken) (now .inv .1) (start .pre .1)
 
 add-end : tie.Need-add-end Inv-loop μ-loop
-add-end c =
-    let start = c .before .before .before in
-    omega (arith, part-within (c .before .loop .j) (start .args .t) (start .args .size) (c .before .loop .at) (c .loop-test .taken) (c .before .loop .inv .1) (start .pre .1))
+add-end c = omega (arith, inside c)
 
 sub-state : tie.Need-sub-state Inv-loop μ-loop
 sub-state c = omega arith
@@ -35,14 +45,10 @@ part-state-start : tie.Need-part-state-start Inv-loop μ-loop
 part-state-start c = omega arith
 
 part-state-end : tie.Need-part-state-end Inv-loop μ-loop
-part-state-end c =
-    let start = c .before .before .before in
-    part-within (c .before .loop .j) (start .args .t) (start .args .size) (c .before .loop .at) (c .loop-test .taken) (c .before .loop .inv .1) (start .pre .1)
+part-state-end c = inside c
 
 add-last : tie.Need-add-last Inv-loop μ-loop
-add-last c =
-    let start = c .before .before .before .before in
-    omega (arith, start .pre .2, start .fits .size)
+add-last c = omega arith
 
 sub-absorb : tie.Need-sub-absorb Inv-loop μ-loop
 sub-absorb c = omega arith
@@ -52,17 +58,22 @@ part-absorb-start c = omega arith
 
 part-absorb-end : tie.Need-part-absorb-end Inv-loop μ-loop
 part-absorb-end c =
-    let start = c .before .before .before .before in
-    let now = c .before .before .loop in
-    let inside = part-within (now .j) (start .args .t) (start .args .size) (now .at) (c .before .loop-test .taken) (now .inv .1) (start .pre .1) in
-    let long = ap (λ (xs : List ℕ). length xs) (cut (now .at) (now .at + start .args .size) (start .args .size) (start .args .states .now) refl)
-    ∙ length-cut (now .at) (start .args .size) (start .args .states .now) inside in
-    rw long (start .pre .2)
+    let in-loop = c .before in
+    let at-loop = in-loop .before in
+    let start = at-loop .before .before in
+    let size = start .args .column .size in
+    let at = at-loop .loop .at in
+    rw (
+      cut at (at + size) size (start .args .states .now) refl,
+      length-cut at size (start .args .states .now)
+          (inside in-loop),
+    )
+    (start .pre .2)
 
 absorb-requires : tie.Need-absorb-requires Inv-loop μ-loop
 absorb-requires c κs =
-    let now = c .before .before .before .loop in
-    now .inv .2 .ready
+    let at-loop = c .before .before .before in
+    at-loop .loop .inv .2 .ready
 
 add-j : tie.Need-add-j Inv-loop μ-loop
 add-j c = omega arith
@@ -72,21 +83,31 @@ loop-less c = omega arith
 
 loop-again : tie.Need-loop-again Inv-loop μ-loop
 loop-again c =
-    let start = c .before .before .before .before .before .before in
-    let a = start .args in
-    let now = c .before .before .before .before .loop in
-    let state = part-at (now .j) (a .size) (now .at) (now .at + a .size) (a .states .now) (now .inv .1) refl in
-    let column = cut (a .offset) (a .offset + a .width) (a .width) _ refl ∙ ap (λ (xs : List ℕ). take (a .width) (drop (a .offset) xs)) state in (
+    let at-loop = c .before .before .before .before in
+    let now = at-loop .loop in
+    let start = at-loop .before .before in
+    let states = start .args .states .now in
+    let column = start .args .column in
+    let state = part-at (now .j) (column .size) (now .at) (now .at + column .size) states (now .inv .1) refl in
+    let own =
+    cut (column .offset) (column .offset + column .width) (column .width) _ refl
+    ∙ ap (λ (xs : List ℕ). take (column .width) (drop (column .offset) xs)) state
+    in (
       omega arith,
-      step-on (now .j) (a .size) (now .at) (now .inv .1),
-      absorbs-to (absorbs-more (now .inv .2) (c .absorb .ensures)) (ap (λ (xs : List ℕ). flat (λ i. take (a .width) (drop (a .offset) (take (a .size) (drop (a .size * i) (a .states .now))))) (now .j) ++ xs) column ∙ sym (flat-more _ (now .j))),
+      step-on (now .j) (column .size) (now .at) (now .inv .1),
+      absorbs-to (absorbs-more (now .inv .2) (c .absorb .ensures))
+          (ap (λ (xs : List ℕ). flat (columnAt (column .size) (column .offset) (column .width) states) (now .j) ++ xs)
+          own ∙ sym (flat-more _ (now .j))),
     )
 
 returns : tie.Need-returns Inv-loop μ-loop
 returns c =
-    let start = c .before .before .before in
-    let end : _≡_ {A = ℕ} (c .before .loop .j) (start .args .t) = omega arith in
-    subst (λ (n : ℕ). Absorbs (start .args .sponge) (flat (λ i. take (start .args .width) (drop (start .args .offset) (take (start .args .size) (drop (start .args .size * i) (start .args .states .now))))) n) (c .before .loop .s)) end (c .before .loop .inv .2)
+    let at-loop = c .before in
+    let now = at-loop .loop in
+    let a = at-loop .before .before .args in
+    let end : _≡_ {A = ℕ} (now .j) (a .column .count) = omega arith in
+    subst (λ (n : ℕ). Absorbs (a .sponge) (flat (columnAt (a .column .size) (a .column .offset) (a .column .width)
+    (a .states .now)) n) (now .s)) end (now .inv .2)
 
 pub absorb-column-spec : {M : Type 1} → statement M
 absorb-column-spec =

@@ -36,16 +36,17 @@ array-borrow-prefix-values c =
 
 slice-aggregate-pack-values : tie.Need-slice-aggregate-pack-values
 slice-aggregate-pack-values c =
-    let packed-size-call = c .before .before .packed-size in
     let after-packed-size = c .before .before in
-    sym (length-take-le (packed-size-call .result) (replicate 224 0) (values-fit after-packed-size))
+    sym (length-take-le (after-packed-size .packed-size .result) (replicate 224 0) (values-fit after-packed-size))
 
 pack-values-requires : tie.Need-pack-values-requires
 pack-values-requires c κs =
-    let start = c .before .before .before .before .before .before .before .before in
-    let packed-size-call = c .before .before .packed-size in
     let after-packed-size = c .before .before in
-    (start .pre .1, length-take-le (packed-size-call .result) (replicate 224 0) (values-fit after-packed-size) ∙ packed-size-call .ensures)
+    let start = after-packed-size .before .before .before .before .before .before in (
+      start .pre .1,
+      length-take-le (after-packed-size .packed-size .result) (replicate 224 0)
+          (values-fit after-packed-size) ∙ after-packed-size .packed-size .ensures,
+    )
 
 array-borrow-prefix-exponents : tie.Need-array-borrow-prefix-exponents
 array-borrow-prefix-exponents c =
@@ -54,51 +55,55 @@ array-borrow-prefix-exponents c =
 
 slice-aggregate-pack-exponents : tie.Need-slice-aggregate-pack-exponents
 slice-aggregate-pack-exponents c =
-    let packed-size2-call = c .before .before .before .before .packed-size2 in
     let after-packed-size2 = c .before .before .before .before in
-    sym (length-take-le (packed-size2-call .result) (replicate 96 0) (exponents-fit after-packed-size2))
+    sym (length-take-le (after-packed-size2 .packed-size2 .result) (replicate 96 0) (exponents-fit after-packed-size2))
 
 pack-exponents-requires : tie.Need-pack-exponents-requires
 pack-exponents-requires c κs =
-    let start = c .before .before .before .before .before .before .before .before .before .before .before in
-    let packed-size2-call = c .before .before .before .before .packed-size2 in
     let after-packed-size2 = c .before .before .before .before in
-    (start .pre .3, length-take-le (packed-size2-call .result) (replicate 96 0) (exponents-fit after-packed-size2) ∙ packed-size2-call .ensures)
+    let start = after-packed-size2 .before .before .before .before .before .before .before in (
+      start .pre .3,
+      length-take-le (after-packed-size2 .packed-size2 .result) (replicate 96 0)
+          (exponents-fit after-packed-size2) ∙ after-packed-size2 .packed-size2 .ensures,
+    )
 
 array-share-prefix-values : tie.Need-array-share-prefix-values
 array-share-prefix-values c =
-    let packed-size-call = c .before .before .before .before .before .before .before .packed-size in
-    let pack-values-call = c .before .before .before .before .pack-values in
-    let after-packed-size = c .before .before .before .before .before .before .before in
-    lent-within (packed-size-call .result) (replicate 224 0) (pack-values-call .last .1 .0) (values-fit after-packed-size) (pack-values-call .kept .1 .0)
+    let after-pack-values = c .before .before .before .before in
+    let after-packed-size = after-pack-values .before .before .before in
+    lent-within (after-packed-size .packed-size .result) (replicate 224 0) (after-pack-values .pack-values .last .1 .0)
+    (values-fit after-packed-size) (after-pack-values .pack-values .kept .1 .0)
 
 slice-aggregate-hash4 : tie.Need-slice-aggregate-hash4
 slice-aggregate-hash4 c =
-    let packed-size-call = c .before .before .before .before .before .before .before .before .packed-size in
-    let pack-values-call = c .before .before .before .before .before .pack-values in
-    let after-packed-size = c .before .before .before .before .before .before .before .before in
-    lent-length (packed-size-call .result) (replicate 224 0) (pack-values-call .last .1 .0) (values-fit after-packed-size) (pack-values-call .kept .1 .0)
+    let after-pack-values = c .before .before .before .before .before in
+    let after-packed-size = after-pack-values .before .before .before in
+    lent-length (after-packed-size .packed-size .result) (replicate 224 0) (after-pack-values .pack-values .last .1 .0)
+    (values-fit after-packed-size) (after-pack-values .pack-values .kept .1 .0)
 
 array-share-prefix-exponents : tie.Need-array-share-prefix-exponents
 array-share-prefix-exponents c =
-    let packed-size2-call = c .before .before .before .before .before .before .before .packed-size2 in
-    let pack-exponents-call = c .before .before .pack-exponents in
-    let after-packed-size2 = c .before .before .before .before .before .before .before in
-    lent-within (packed-size2-call .result) (replicate 96 0) (pack-exponents-call .last .1 .0) (exponents-fit after-packed-size2) (pack-exponents-call .kept .1 .0)
+    let after-pack-exponents = c .before .before in
+    let after-packed-size2 = after-pack-exponents .before .before .before .before .before in
+    lent-within (after-packed-size2 .packed-size2 .result) (replicate 96 0)
+    (after-pack-exponents .pack-exponents .last .1 .0) (exponents-fit after-packed-size2)
+    (after-pack-exponents .pack-exponents .kept .1 .0)
 
 slice-aggregate-hash4-2 : tie.Need-slice-aggregate-hash4-2
 slice-aggregate-hash4-2 c =
-    let packed-size2-call = c .before .before .before .before .before .before .before .before .packed-size2 in
-    let pack-exponents-call = c .before .before .before .pack-exponents in
-    let after-packed-size2 = c .before .before .before .before .before .before .before .before in
-    lent-length (packed-size2-call .result) (replicate 96 0) (pack-exponents-call .last .1 .0) (exponents-fit after-packed-size2) (pack-exponents-call .kept .1 .0)
+    let after-pack-exponents = c .before .before .before in
+    let after-packed-size2 = after-pack-exponents .before .before .before .before .before in
+    lent-length (after-packed-size2 .packed-size2 .result) (replicate 96 0)
+    (after-pack-exponents .pack-exponents .last .1 .0) (exponents-fit after-packed-size2)
+    (after-pack-exponents .pack-exponents .kept .1 .0)
 
 slice-aggregate-hash4-3 : tie.Need-slice-aggregate-hash4-3
 slice-aggregate-hash4-3 c = search needs
 
 hash4-requires : tie.Need-hash4-requires
 hash4-requires c κs =
-    let start = c .before .before .before .before .before .before .before .before .before .before .before .before .before .before .before .before .before in
+    let after-round-number = c .before .before .before .before .before .before .before .before .before .before .before .before in
+    let start = after-round-number .before .before .before .before .before in
     start .pre .0
 
 same-length : tie.Need-same-length
@@ -106,20 +111,27 @@ same-length c = search needs
 
 returns : tie.Need-returns
 returns c =
-    let start = c .before .before .before .before .before .before .before .before .before .before .before .before .before .before .before .before .before .before .before .before in
+    let after-hash4 = c .before .before in
+    let after-pack-exponents = after-hash4 .before .before .before .before .before .before in
+    let after-pack-values = after-pack-exponents .before .before .before in
+    let after-packed-size2 = after-pack-values .before .before in
+    let after-packed-size = after-packed-size2 .before in
+    let after-round-number = after-packed-size .before in
+    let start = after-round-number .before .before .before .before .before in
     let a = start .args in
-    let packed-size-call = c .before .before .before .before .before .before .before .before .before .before .before .before .before .before .packed-size in
-    let pack-values-call = c .before .before .before .before .before .before .before .before .before .before .before .pack-values in
-    let after-packed-size = c .before .before .before .before .before .before .before .before .before .before .before .before .before .before in
-    let packed-size2-call = c .before .before .before .before .before .before .before .before .before .before .before .before .before .packed-size2 in
-    let pack-exponents-call = c .before .before .before .before .before .before .before .before .pack-exponents in
-    let after-packed-size2 = c .before .before .before .before .before .before .before .before .before .before .before .before .before in
-    let round-number-call = c .before .before .before .before .before .before .before .before .before .before .before .before .before .before .before .round-number in
-    let hash4-call = c .before .before .hash4 in
-    let values = lent-part (packed-size-call .result) (replicate 224 0) (pack-values-call .last .1 .0) (values-fit after-packed-size) (pack-values-call .kept .1 .0) ∙ pack-values-call .ensures in
-    let exponents = lent-part (packed-size2-call .result) (replicate 96 0) (pack-exponents-call .last .1 .0) (exponents-fit after-packed-size2) (pack-exponents-call .kept .1 .0) ∙ pack-exponents-call .ensures in
-    let number = round-number-call .ensures in
-    hash4-call .ensures ∙ (λ i. shake (a .rate) (a .tag ∷ values i ++ exponents i ++ a .salt .now ++ number i) (length (a .out .now)))
+    let values =
+    lent-part (after-packed-size .packed-size .result) (replicate 224 0) (after-pack-values .pack-values .last .1 .0)
+    (values-fit after-packed-size) (after-pack-values .pack-values .kept .1 .0)
+    ∙ after-pack-values .pack-values .ensures
+    in
+    let exponents =
+    lent-part (after-packed-size2 .packed-size2 .result) (replicate 96 0)
+    (after-pack-exponents .pack-exponents .last .1 .0) (exponents-fit after-packed-size2)
+    (after-pack-exponents .pack-exponents .kept .1 .0) ∙ after-pack-exponents .pack-exponents .ensures
+    in
+    let number = after-round-number .round-number .ensures in
+    after-hash4 .hash4 .ensures ∙ (λ i. shake (a .rate) (a .tag ∷ values i ++ exponents i ++ a .salt .now ++ number i)
+    (length (a .out .now)))
 
 pub commit-spec : {M : Type 1} → statement M
 commit-spec =

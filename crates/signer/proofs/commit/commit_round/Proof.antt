@@ -26,10 +26,12 @@ mask-exponents-requires c κs =
 
 returns : tie.Need-returns
 returns c =
-    let start = c .before .before .before .before .before .before .before .before .before in
+    let after-mask-exponents = c .before .before in
+    let start = after-mask-exponents .before .before .before .before .before .before .before in
     let a = start .args in
-    let drawn = c .before .before .mask-exponents in
-    not-drawn (exponents-short (a .p) (a .seed .now) (a .salt .now) (a .j + 1) (sym (drawn .ensures .answer) ∙ not-true (drawn .result) (c .if1 .taken)))
+    not-drawn (exponents-short (a .p) (a .seed .now) (a .salt .now) (a .j + 1)
+    (sym (after-mask-exponents .mask-exponents .ensures .answer)
+    ∙ not-true (after-mask-exponents .mask-exponents .result) (c .if1 .taken)))
 
 slice-aggregate-mask-values : tie.Need-slice-aggregate-mask-values
 slice-aggregate-mask-values c = search needs
@@ -41,59 +43,70 @@ mask-values-requires c κs =
 
 returns-2 : tie.Need-returns-2
 returns-2 c =
-    let start = c .before .before .before .before .before .before .before .before .before .before .before .before .before in
+    let after-mask-values = c .before .before in
+    let after-if1 = after-mask-values .before .before in
+    let after-mask-exponents = after-if1 .before .before in
+    let start = after-mask-exponents .before .before .before .before .before .before .before in
     let a = start .args in
-    let if1 = c .before .before .before .before .if1 in
-    let drawn = c .before .before .before .before .before .before .mask-exponents in
-    let more = c .before .before .mask-values in
     not-drawn
     (values-short (a .p) (a .seed .now) (a .salt .now) (a .j + 1)
-    (sym (drawn .ensures .answer) ∙ not-false (drawn .result) (if1 .left))
-    (sym (more .ensures .answer) ∙ not-true (more .result) (c .if2 .taken)))
+    (sym (after-mask-exponents .mask-exponents .ensures .answer)
+    ∙ not-false (after-mask-exponents .mask-exponents .result) (after-if1 .if1 .left))
+    (sym (after-mask-values .mask-values .ensures .answer)
+    ∙ not-true (after-mask-values .mask-values .result) (c .if2 .taken)))
 
 array-share-prefix-us : tie.Need-array-share-prefix-us
 array-share-prefix-us c =
-    let start = c .before .before .before .before .before .before .before .before .before .before .before .before .before in
-    let mask-values-call = c .before .before .mask-values in
-    omega (arith, mask-values-call .kept .1 .1 .1 .1 .0, start .pre .0 .n-fits)
+    let after-mask-values = c .before .before in
+    let start = after-mask-values .before .before .before .before .before .before .before .before .before .before .before in
+    omega (arith, after-mask-values .mask-values .kept .1 .1 .1 .1 .0, start .pre .0 .n-fits)
 
 slice-aggregate-write-state : tie.Need-slice-aggregate-write-state
 slice-aggregate-write-state c =
-    let start = c .before .before .before .before .before .before .before .before .before .before .before .before .before .before in
-    let mask-values-call = c .before .before .before .mask-values in
-    sym (length-take-le _ _ (omega (arith, mask-values-call .kept .1 .1 .1 .1 .0, start .pre .0 .n-fits)))
+    let after-mask-values = c .before .before .before in
+    let start = after-mask-values .before .before .before .before .before .before .before .before .before .before .before in
+    sym (length-take-le _ _ (omega (arith, after-mask-values .mask-values .kept .1 .1 .1 .1 .0, start .pre .0 .n-fits)))
 
 array-share-prefix-es : tie.Need-array-share-prefix-es
 array-share-prefix-es c =
-    let start = c .before .before .before .before .before .before .before .before .before .before .before .before .before .before in
-    let mask-exponents-call = c .before .before .before .before .before .before .before .mask-exponents in
-    omega (arith, mask-exponents-call .kept .1 .1 .1 .1 .0, start .pre .0 .n-fits)
+    let after-mask-exponents = c .before .before .before .before .before .before .before in
+    let start = after-mask-exponents .before .before .before .before .before .before .before in
+    omega (arith, after-mask-exponents .mask-exponents .kept .1 .1 .1 .1 .0, start .pre .0 .n-fits)
 
 slice-aggregate-write-state-2 : tie.Need-slice-aggregate-write-state-2
 slice-aggregate-write-state-2 c =
-    let start = c .before .before .before .before .before .before .before .before .before .before .before .before .before .before .before in
-    let mask-exponents-call = c .before .before .before .before .before .before .before .before .mask-exponents in
-    sym (length-take-le _ _ (omega (arith, mask-exponents-call .kept .1 .1 .1 .1 .0, start .pre .0 .n-fits)))
+    let after-mask-exponents = c .before .before .before .before .before .before .before .before in
+    let start = after-mask-exponents .before .before .before .before .before .before .before in
+    sym (length-take-le _ _
+    (omega (arith, after-mask-exponents .mask-exponents .kept .1 .1 .1 .1 .0, start .pre .0 .n-fits)))
 
 write-state-requires : tie.Need-write-state-requires
 write-state-requires c κs =
-    let start = c .before .before .before .before .before .before .before .before .before .before .before .before .before .before .before .before in
-    let if2 = c .before .before .before .if2 in
-    let if1 = c .before .before .before .before .before .before .before .if1 in
-    let drawn = c .before .before .before .before .before .before .before .before .before .mask-exponents in
-    let more = c .before .before .before .before .before .mask-values in
+    let after-if2 = c .before .before .before in
+    let after-mask-values = after-if2 .before .before in
+    let after-if1 = after-mask-values .before .before in
+    let after-mask-exponents = after-if1 .before .before in
+    let start = after-mask-exponents .before .before .before .before .before .before .before in
     let a = start .args in
-    let held = more .ensures .content (not-false (more .result) (if2 .left)) in
-    let held-e = drawn .ensures .content (not-false (drawn .result) (if1 .left)) in (
+    let held =
+    after-mask-values .mask-values .ensures .content
+    (not-false (after-mask-values .mask-values .result) (after-if2 .if2 .left))
+    in
+    let held-e =
+    after-mask-exponents .mask-exponents .ensures .content
+    (not-false (after-mask-exponents .mask-exponents .result) (after-if1 .if1 .left))
+    in (
       start .pre .0,
       start .pre .1,
       start .pre .2,
       record {
-        long = length-take-le _ _ (omega (arith, more .kept .1 .1 .1 .1 .0, start .pre .0 .n-fits));
+        long = length-take-le _ _
+            (omega (arith, after-mask-values .mask-values .kept .1 .1 .1 .1 .0, start .pre .0 .n-fits));
         ranged = rw held (kept-below 127 _ (below-values (a .p) (a .seed .now) (a .salt .now) (a .j + 1)));
       },
       record {
-        long = length-take-le _ _ (omega (arith, drawn .kept .1 .1 .1 .1 .0, start .pre .0 .n-fits));
+        long = length-take-le _ _
+            (omega (arith, after-mask-exponents .mask-exponents .kept .1 .1 .1 .1 .0, start .pre .0 .n-fits));
         ranged = rw held-e (kept-below 7 _ (below-mask (a .p) (a .seed .now) (a .salt .now) (a .j + 1)));
       },
       start .pre .4,
@@ -104,20 +117,24 @@ same-length c = search needs
 
 returns-3 : tie.Need-returns-3
 returns-3 c =
-    let start = c .before .before .before .before .before .before .before .before .before .before .before .before .before .before .before .before .before .before .before in
+    let after-write-state = c .before .before in
+    let after-if2 = after-write-state .before .before .before .before in
+    let after-mask-values = after-if2 .before .before in
+    let after-if1 = after-mask-values .before .before in
+    let after-mask-exponents = after-if1 .before .before in
+    let start = after-mask-exponents .before .before .before .before .before .before .before in
     let a = start .args in
-    let if1 = c .before .before .before .before .before .before .before .before .before .before .if1 in
-    let if2 = c .before .before .before .before .before .before .if2 in
-    let write-state-call = c .before .before .write-state in
-    let drawn = c .before .before .before .before .before .before .before .before .before .before .before .before .mask-exponents in
-    let more = c .before .before .before .before .before .before .before .before .mask-values in
-    let ok-e = not-false (drawn .result) (if1 .left) in
-    let ok = not-false (more .result) (if2 .left) in
+    let ok-e = not-false (after-mask-exponents .mask-exponents .result) (after-if1 .if1 .left) in
+    let ok = not-false (after-mask-values .mask-values .result) (after-if2 .if2 .left) in
     record {
-      answer = round-drawn (a .p) (a .seed .now) (a .salt .now) (a .j + 1) (sym (drawn .ensures .answer) ∙ ok-e) (sym (more .ensures .answer) ∙ ok);
+      answer = round-drawn (a .p) (a .seed .now) (a .salt .now) (a .j + 1)
+          (sym (after-mask-exponents .mask-exponents .ensures .answer) ∙ ok-e)
+          (sym (after-mask-values .mask-values .ensures .answer) ∙ ok);
       content = λ _.
-          write-state-call .ensures
-          ∙ state-made (a .p) (a .vs .now) (a .key .now) (a .seed .now) (a .salt .now) (a .j) (more .ensures .content ok) (drawn .ensures .content ok-e);
+          after-write-state .write-state .ensures
+          ∙ state-made (a .p) (a .vs .now) (a .key .now) (a .seed .now) (a .salt .now) (a .j)
+          (after-mask-values .mask-values .ensures .content ok)
+          (after-mask-exponents .mask-exponents .ensures .content ok-e);
     }
 
 pub commit-round-spec : {M : Type 1} → statement M

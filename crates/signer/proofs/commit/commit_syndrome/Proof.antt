@@ -29,53 +29,68 @@ rows-fit c = omega (arith, c .pre .0 .n-fits)
 
 σ-held : (c : tie.After-transform) →
     let start = c .before .before .before .before .before .before .before .before in
-    take (start .args .p .n) (c .transform .last .1 .1 .0 ++ drop (start .args .p .n) (replicate 256 0)) ≡ transformation (start .args .key .now) (start .args .es .now)
+    take (start .args .p .n) (c .transform .last .1 .1 .0 ++ drop (start .args .p .n) (replicate 256 0))
+    ≡ transformation (start .args .key .now) (start .args .es .now)
 σ-held c =
     let start = c .before .before .before .before .before .before .before .before in
-    lent-part (start .args .p .n) (replicate 256 0) (c .transform .last .1 .1 .0) (start .pre .0 .n-fits) (c .transform .kept .1 .1 .0) ∙ c .transform .ensures
+    lent-part (start .args .p .n) (replicate 256 0) (c .transform .last .1 .1 .0) (start .pre .0 .n-fits)
+    (c .transform .kept .1 .1 .0) ∙ c .transform .ensures
 
 σ-long : (c : tie.After-transform) →
     let start = c .before .before .before .before .before .before .before .before in
-    start .args .p .n ≡ length (take (start .args .p .n) (c .transform .last .1 .1 .0 ++ drop (start .args .p .n) (replicate 256 0)))
+    start .args .p .n ≡ length (take (start .args .p .n)
+    (c .transform .last .1 .1 .0 ++ drop (start .args .p .n) (replicate 256 0)))
 σ-long c =
     let start = c .before .before .before .before .before .before .before .before in
-    lent-length (start .args .p .n) (replicate 256 0) (c .transform .last .1 .1 .0) (start .pre .0 .n-fits) (c .transform .kept .1 .1 .0)
+    lent-length (start .args .p .n) (replicate 256 0) (c .transform .last .1 .1 .0) (start .pre .0 .n-fits)
+    (c .transform .kept .1 .1 .0)
 
 x-held : (c : tie.After-scale) →
     let start = c .before .before .before .before .before .before .before .before .before .before .before .before in
     take (start .args .p .n) (c .scale .last .1 .1 .0 ++ drop (start .args .p .n) (replicate 256 0))
     ≡ scaled (transformation (start .args .key .now) (start .args .es .now)) (start .args .us .now)
 x-held c =
-    let start = c .before .before .before .before .before .before .before .before .before .before .before .before in
     let after-transform = c .before .before .before .before in
-    lent-part (start .args .p .n) (replicate 256 0) (c .scale .last .1 .1 .0) (start .pre .0 .n-fits) (c .scale .kept .1 .1 .0)
+    let start = after-transform .before .before .before .before .before .before .before .before in
+    lent-part (start .args .p .n) (replicate 256 0) (c .scale .last .1 .1 .0) (start .pre .0 .n-fits)
+    (c .scale .kept .1 .1 .0)
     ∙ c .scale .ensures
     ∙ ap (λ (s : List ℕ). scaled s (start .args .us .now)) (σ-held after-transform)
 
 x-long : (c : tie.After-scale) →
     let start = c .before .before .before .before .before .before .before .before .before .before .before .before in
-    start .args .p .n ≡ length (take (start .args .p .n) (c .scale .last .1 .1 .0 ++ drop (start .args .p .n) (replicate 256 0)))
+    start .args .p .n ≡ length (take (start .args .p .n)
+    (c .scale .last .1 .1 .0 ++ drop (start .args .p .n) (replicate 256 0)))
 x-long c =
     let start = c .before .before .before .before .before .before .before .before .before .before .before .before in
-    lent-length (start .args .p .n) (replicate 256 0) (c .scale .last .1 .1 .0) (start .pre .0 .n-fits) (c .scale .kept .1 .1 .0)
+    lent-length (start .args .p .n) (replicate 256 0) (c .scale .last .1 .1 .0) (start .pre .0 .n-fits)
+    (c .scale .kept .1 .1 .0)
 
 s-held : (c : tie.After-syndrome) →
-    let start = c .before .before .before .before .before .before .before .before .before .before .before .before .before .before .before .before in
-    take (start .args .p .n - start .args .p .k) (c .syndrome .last .1 .1 .1 .0 ++ drop (start .args .p .n - start .args .p .k) (replicate 256 0))
-    ≡ syndrome (start .args .p .k) (start .args .vs .now) (scaled (transformation (start .args .key .now) (start .args .es .now)) (start .args .us .now))
+    let after-transform = c .before .before .before .before .before .before .before .before in
+    let start = after-transform .before .before .before .before .before .before .before .before in
+    take (start .args .p .n - start .args .p .k) (c .syndrome .last .1 .1 .1 .0
+    ++ drop (start .args .p .n - start .args .p .k) (replicate 256 0))
+    ≡ syndrome (start .args .p .k) (start .args .vs .now)
+    (scaled (transformation (start .args .key .now) (start .args .es .now)) (start .args .us .now))
 s-held c =
-    let start = c .before .before .before .before .before .before .before .before .before .before .before .before .before .before .before .before in
     let after-scale = c .before .before .before .before in
-    lent-part (start .args .p .n - start .args .p .k) (replicate 256 0) (c .syndrome .last .1 .1 .1 .0) (rows-fit start) (c .syndrome .kept .1 .1 .1 .0)
+    let start = after-scale .before .before .before .before .before .before .before .before .before .before .before .before in
+    lent-part (start .args .p .n - start .args .p .k) (replicate 256 0) (c .syndrome .last .1 .1 .1 .0) (rows-fit start)
+    (c .syndrome .kept .1 .1 .1 .0)
     ∙ c .syndrome .ensures
     ∙ ap (λ (x : List ℕ). syndrome (start .args .p .k) (start .args .vs .now) x) (x-held after-scale)
 
 s-long : (c : tie.After-syndrome) →
-    let start = c .before .before .before .before .before .before .before .before .before .before .before .before .before .before .before .before in
-    start .args .p .n - start .args .p .k ≡ length (take (start .args .p .n - start .args .p .k) (c .syndrome .last .1 .1 .1 .0 ++ drop (start .args .p .n - start .args .p .k) (replicate 256 0)))
+    let after-transform = c .before .before .before .before .before .before .before .before in
+    let start = after-transform .before .before .before .before .before .before .before .before in
+    start .args .p .n - start .args .p .k ≡ length (take (start .args .p .n - start .args .p .k)
+    (c .syndrome .last .1 .1 .1 .0 ++ drop (start .args .p .n - start .args .p .k) (replicate 256 0)))
 s-long c =
-    let start = c .before .before .before .before .before .before .before .before .before .before .before .before .before .before .before .before in
-    lent-length (start .args .p .n - start .args .p .k) (replicate 256 0) (c .syndrome .last .1 .1 .1 .0) (rows-fit start) (c .syndrome .kept .1 .1 .1 .0)
+    let after-transform = c .before .before .before .before .before .before .before .before in
+    let start = after-transform .before .before .before .before .before .before .before .before in
+    lent-length (start .args .p .n - start .args .p .k) (replicate 256 0) (c .syndrome .last .1 .1 .1 .0)
+    (rows-fit start) (c .syndrome .kept .1 .1 .1 .0)
 
 slice-aggregate-transform : tie.Need-slice-aggregate-transform
 slice-aggregate-transform c =
@@ -95,7 +110,8 @@ transform-requires c κs =
 array-share-prefix-sigma : tie.Need-array-share-prefix-sigma
 array-share-prefix-sigma c =
     let start = c .before .before .before .before .before .before .before .before .before in
-    lent-within (start .args .p .n) (replicate 256 0) (c .before .transform .last .1 .1 .0) (start .pre .0 .n-fits) (c .before .transform .kept .1 .1 .0)
+    lent-within (start .args .p .n) (replicate 256 0) (c .before .transform .last .1 .1 .0) (start .pre .0 .n-fits)
+    (c .before .transform .kept .1 .1 .0)
 
 slice-aggregate-scale : tie.Need-slice-aggregate-scale
 slice-aggregate-scale c =
@@ -112,9 +128,9 @@ slice-aggregate-scale-2 c =
 
 scale-requires : tie.Need-scale-requires
 scale-requires c κs =
-    let start = c .before .before .before .before .before .before .before .before .before .before .before in
-    let pre = start .pre in
-    let after-transform = c .before .before .before in (
+    let after-transform = c .before .before .before in
+    let start = after-transform .before .before .before .before .before .before .before .before in
+    let pre = start .pre in (
       length-take-le (start .args .p .n) (replicate 256 0) (pre .0 .n-fits) ∙ σ-long after-transform,
       pre .3 .long ∙ σ-long after-transform,
       rw (σ-held after-transform) (kept-below 7 _ (below-transformation _ _)),
@@ -123,8 +139,10 @@ scale-requires c κs =
 
 array-share-prefix-x : tie.Need-array-share-prefix-x
 array-share-prefix-x c =
-    let start = c .before .before .before .before .before .before .before .before .before .before .before .before .before in
-    lent-within (start .args .p .n) (replicate 256 0) (c .before .scale .last .1 .1 .0) (start .pre .0 .n-fits) (c .before .scale .kept .1 .1 .0)
+    let after-transform = c .before .before .before .before .before in
+    let start = after-transform .before .before .before .before .before .before .before .before in
+    lent-within (start .args .p .n) (replicate 256 0) (c .before .scale .last .1 .1 .0) (start .pre .0 .n-fits)
+    (c .before .scale .kept .1 .1 .0)
 
 slice-aggregate-syndrome : tie.Need-slice-aggregate-syndrome
 slice-aggregate-syndrome c =
@@ -136,13 +154,14 @@ array-borrow-prefix-s c = search needs
 
 slice-aggregate-syndrome-2 : tie.Need-slice-aggregate-syndrome-2
 slice-aggregate-syndrome-2 c =
-    let start = c .before .before .before .before .before .before .before .before .before .before .before .before .before .before .before in
+    let after-transform = c .before .before .before .before .before .before .before in
+    let start = after-transform .before .before .before .before .before .before .before .before in
     sym (length-take-le _ (replicate 256 0) (rows-fit start))
 
 syndrome-requires : tie.Need-syndrome-requires
 syndrome-requires c κs =
-    let start = c .before .before .before .before .before .before .before .before .before .before .before .before .before .before .before in
     let after-scale = c .before .before .before in
+    let start = after-scale .before .before .before .before .before .before .before .before .before .before .before .before in
     let p = start .args .p in
     let rows = length-take-le {A = ℕ} (p .n - p .k) (replicate 256 0) (rows-fit start) in (
       sym (x-long after-scale) ∙ omega (arith, rows, start .pre .0 .k≤n),
@@ -154,8 +173,10 @@ syndrome-requires c κs =
 
 array-share-prefix-s : tie.Need-array-share-prefix-s
 array-share-prefix-s c =
-    let start = c .before .before .before .before .before .before .before .before .before .before .before .before .before .before .before .before .before in
-    lent-within _ (replicate 256 0) (c .before .syndrome .last .1 .1 .1 .0) (rows-fit start) (c .before .syndrome .kept .1 .1 .1 .0)
+    let after-transform = c .before .before .before .before .before .before .before .before .before in
+    let start = after-transform .before .before .before .before .before .before .before .before in
+    lent-within _ (replicate 256 0) (c .before .syndrome .last .1 .1 .1 .0) (rows-fit start)
+    (c .before .syndrome .kept .1 .1 .1 .0)
 
 slice-aggregate-commit : tie.Need-slice-aggregate-commit
 slice-aggregate-commit c =
@@ -164,9 +185,10 @@ slice-aggregate-commit c =
 
 array-share-prefix-sigma-2 : tie.Need-array-share-prefix-sigma-2
 array-share-prefix-sigma-2 c =
-    let start = c .before .before .before .before .before .before .before .before .before .before .before .before .before .before .before .before .before .before in
-    let transform-call = c .before .before .before .before .before .before .before .before .before .before .transform in
-    lent-within (start .args .p .n) (replicate 256 0) (transform-call .last .1 .1 .0) (start .pre .0 .n-fits) (transform-call .kept .1 .1 .0)
+    let after-transform = c .before .before .before .before .before .before .before .before .before .before in
+    let start = after-transform .before .before .before .before .before .before .before .before in
+    lent-within (start .args .p .n) (replicate 256 0) (after-transform .transform .last .1 .1 .0)
+    (start .pre .0 .n-fits) (after-transform .transform .kept .1 .1 .0)
 
 slice-aggregate-commit-2 : tie.Need-slice-aggregate-commit-2
 slice-aggregate-commit-2 c =
@@ -175,9 +197,9 @@ slice-aggregate-commit-2 c =
 
 commit-requires : tie.Need-commit-requires
 commit-requires c κs =
-    let start = c .before .before .before .before .before .before .before .before .before .before .before .before .before .before .before .before .before .before .before .before in
     let after-syndrome = c .before .before .before .before in
-    let after-transform = c .before .before .before .before .before .before .before .before .before .before .before .before in
+    let after-transform = after-syndrome .before .before .before .before .before .before .before .before in
+    let start = after-transform .before .before .before .before .before .before .before .before in
     let sound = start .pre .0 in (
       rate-of sound,
       rw (s-held after-syndrome) (kept-below 127 _ (below-syndrome _ _ _)),
@@ -192,15 +214,16 @@ same-length c = search needs
 returns : tie.Need-returns
 unfolding digest bytesFrom string0
 returns c =
-    let start = c .before .before .before .before .before .before .before .before .before .before .before .before .before .before .before .before .before .before .before .before .before .before .before in
-    let after-syndrome = c .before .before .before .before .before .before .before in
-    let after-transform = c .before .before .before .before .before .before .before .before .before .before .before .before .before .before .before in
-    let commit-call = c .before .before .commit in
+    let after-commit = c .before .before in
+    let after-syndrome = after-commit .before .before .before .before .before in
+    let after-transform = after-syndrome .before .before .before .before .before .before .before .before in
+    let start = after-transform .before .before .before .before .before .before .before .before in
     let a = start .args in
     let s = s-held after-syndrome in
     let σ = σ-held after-transform in
     let sized = start .pre .5 in
-    commit-call .ensures ∙ (λ k. shake (a .p .rate) (0 ∷ pack 7 (s k) ++ pack 3 (σ k) ++ a .salt .now ++ digits 8 2 (a .i)) (sized k))
+    after-commit .commit .ensures ∙ (λ k. shake (a .p .rate)
+    (0 ∷ pack 7 (s k) ++ pack 3 (σ k) ++ a .salt .now ++ digits 8 2 (a .i)) (sized k))
 
 pub commit-syndrome-spec : {M : Type 1} → statement M
 commit-syndrome-spec =

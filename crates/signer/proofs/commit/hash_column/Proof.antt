@@ -22,10 +22,11 @@ same-length c = search needs
 
 returns : tie.Need-returns
 returns c =
-    let squeeze-call = c .before .before .squeeze in
-    let absorb-column-call = c .before .before .before .before .absorb-column in
-    let tagged-call = c .before .before .before .before .before .tagged in
-    squeeze-call .ensures .holds (absorb-column-call .ensures .holds (tagged-call .ensures))
+    let after-squeeze = c .before .before in
+    let after-absorb-column = after-squeeze .before .before in
+    let after-tagged = after-absorb-column .before in
+    after-squeeze .squeeze .ensures .holds (after-absorb-column .absorb-column .ensures .holds
+    (after-tagged .tagged .ensures))
 
 pub hash-column-spec : {M : Type 1} → statement M
 hash-column-spec =

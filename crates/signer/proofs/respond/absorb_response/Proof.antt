@@ -35,21 +35,23 @@ pack-response-requires c κs =
       start .pre .0,
       start .pre .2,
       start .pre .3,
-      length-take-le (c .before .packed-size .result) (replicate 224 0) (packed-fits (c .before)) ∙ c .before .packed-size .ensures,
+      length-take-le (c .before .packed-size .result) (replicate 224 0) (packed-fits (c .before))
+          ∙ c .before .packed-size .ensures,
     )
 
 array-share-prefix-packed : tie.Need-array-share-prefix-packed
 array-share-prefix-packed c =
-    let packed-size-call = c .before .before .before .packed-size in
     let after-packed-size = c .before .before .before in
-    lent-within (packed-size-call .result) (replicate 224 0) (c .before .pack-response .last .1 .1 .1 .0) (packed-fits after-packed-size) (c .before .pack-response .kept .1 .1 .1 .0)
+    lent-within (after-packed-size .packed-size .result) (replicate 224 0) (c .before .pack-response .last .1 .1 .1 .0)
+    (packed-fits after-packed-size) (c .before .pack-response .kept .1 .1 .1 .0)
 
 slice-aggregate-hash1 : tie.Need-slice-aggregate-hash1
 slice-aggregate-hash1 c =
-    let packed-size-call = c .before .before .before .before .packed-size in
-    let pack-response-call = c .before .before .pack-response in
-    let after-packed-size = c .before .before .before .before in
-    lent-length (packed-size-call .result) (replicate 224 0) (pack-response-call .last .1 .1 .1 .0) (packed-fits after-packed-size) (pack-response-call .kept .1 .1 .1 .0)
+    let after-pack-response = c .before .before in
+    let after-packed-size = after-pack-response .before .before in
+    lent-length (after-packed-size .packed-size .result) (replicate 224 0)
+    (after-pack-response .pack-response .last .1 .1 .1 .0) (packed-fits after-packed-size)
+    (after-pack-response .pack-response .kept .1 .1 .1 .0)
 
 array-borrow-prefix-hashed : tie.Need-array-borrow-prefix-hashed
 array-borrow-prefix-hashed c = search needs
@@ -67,13 +69,15 @@ hash1-requires c κs =
 array-share-prefix-hashed : tie.Need-array-share-prefix-hashed
 array-share-prefix-hashed c =
     let start = c .before .before .before .before .before .before .before .before .before in
-    lent-within (start .args .p .digest) (replicate 64 0) (c .before .hash1 .last .1 .1 .1 .0) (start .pre .0 .digest-fits) (c .before .hash1 .kept .1 .1 .1 .0)
+    lent-within (start .args .p .digest) (replicate 64 0) (c .before .hash1 .last .1 .1 .1 .0)
+    (start .pre .0 .digest-fits) (c .before .hash1 .kept .1 .1 .1 .0)
 
 slice-aggregate-absorb : tie.Need-slice-aggregate-absorb
 slice-aggregate-absorb c =
-    let start = c .before .before .before .before .before .before .before .before .before .before in
-    let hash1-call = c .before .before .hash1 in
-    lent-length (start .args .p .digest) (replicate 64 0) (hash1-call .last .1 .1 .1 .0) (start .pre .0 .digest-fits) (hash1-call .kept .1 .1 .1 .0)
+    let after-hash1 = c .before .before in
+    let start = after-hash1 .before .before .before .before .before .before .before .before in
+    lent-length (start .args .p .digest) (replicate 64 0) (after-hash1 .hash1 .last .1 .1 .1 .0)
+    (start .pre .0 .digest-fits) (after-hash1 .hash1 .kept .1 .1 .1 .0)
 
 absorb-requires : tie.Need-absorb-requires
 absorb-requires c κs =
@@ -83,15 +87,19 @@ absorb-requires c κs =
 returns : tie.Need-returns
 unfolding digest bytesFrom string2
 returns c =
-    let start = c .before .before .before .before .before .before .before .before .before .before .before in
-    let packed-size-call = c .before .before .before .before .before .before .before .before .before .packed-size in
-    let after-packed-size = c .before .before .before .before .before .before .before .before .before in
-    let made = c .before .before .before .before .before .before .before .pack-response in
-    let hash = c .before .before .before .hash1 in
+    let after-hash1 = c .before .before .before in
+    let after-pack-response = after-hash1 .before .before .before .before in
+    let after-packed-size = after-pack-response .before .before in
+    let start = after-packed-size .before .before in
     let p = start .args .p in
-    let packed = lent-part (packed-size-call .result) (replicate 224 0) (made .last .1 .1 .1 .0) (packed-fits after-packed-size) (made .kept .1 .1 .1 .0) ∙ made .ensures in
+    let packed =
+    lent-part (after-packed-size .packed-size .result) (replicate 224 0)
+    (after-pack-response .pack-response .last .1 .1 .1 .0) (packed-fits after-packed-size)
+    (after-pack-response .pack-response .kept .1 .1 .1 .0) ∙ after-pack-response .pack-response .ensures
+    in
     absorbs-to (c .absorb .ensures)
-    (lent-hash (p .digest) (replicate 64 0) (hash .last .1 .1 .1 .0) (start .pre .0 .digest-fits) (hash .kept .1 .1 .1 .0) (p .rate) _ (hash .ensures)
+    (lent-hash (p .digest) (replicate 64 0) (after-hash1 .hash1 .last .1 .1 .1 .0) (start .pre .0 .digest-fits)
+    (after-hash1 .hash1 .kept .1 .1 .1 .0) (p .rate) _ (after-hash1 .hash1 .ensures)
     ∙ ap (λ (y : List ℕ). shake (p .rate) (2 ∷ y) (p .digest)) packed)
 
 pub absorb-response-spec : {M : Type 1} → statement M

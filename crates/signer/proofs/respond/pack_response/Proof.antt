@@ -44,7 +44,8 @@ slice-aggregate-respond-2 c =
     sym (length-take-le (start .args .p .n) (replicate 256 0) (start .pre .0 .n-fits))
 
 -- e' as it is lent
-exponents-are : (c : tie.Start) → take (c .args .p .n + c .args .p .n - c .args .p .n) (drop (c .args .p .n) (c .args .state .now)) ≡ exponentsOf (c .args .p) (c .args .state .now)
+exponents-are : (c : tie.Start) → take (c .args .p .n + c .args .p .n - c .args .p .n)
+    (drop (c .args .p .n) (c .args .state .now)) ≡ exponentsOf (c .args .p) (c .args .state .now)
 exponents-are c = cut (c .args .p .n) (c .args .p .n + c .args .p .n) (c .args .p .n) (c .args .state .now) refl
 
 respond-requires : tie.Need-respond-requires
@@ -61,21 +62,29 @@ respond-requires c κs =
 array-share-prefix-y : tie.Need-array-share-prefix-y
 array-share-prefix-y c =
     let start = c .before .before .before .before .before .before .before in
-    lent-within (start .args .p .n) (replicate 256 0) (c .before .respond .last .1 .1 .1 .0) (start .pre .0 .n-fits) (c .before .respond .kept .1 .1 .1 .0)
+    lent-within (start .args .p .n) (replicate 256 0) (c .before .respond .last .1 .1 .1 .0) (start .pre .0 .n-fits)
+    (c .before .respond .kept .1 .1 .1 .0)
 
 slice-aggregate-pack-values : tie.Need-slice-aggregate-pack-values
 slice-aggregate-pack-values c =
-    let start = c .before .before .before .before .before .before .before .before in
-    let respond-call = c .before .before .respond in
-    lent-length (start .args .p .n) (replicate 256 0) (respond-call .last .1 .1 .1 .0) (start .pre .0 .n-fits) (respond-call .kept .1 .1 .1 .0)
+    let after-respond = c .before .before in
+    let start = after-respond .before .before .before .before .before .before in
+    lent-length (start .args .p .n) (replicate 256 0) (after-respond .respond .last .1 .1 .1 .0) (start .pre .0 .n-fits)
+    (after-respond .respond .kept .1 .1 .1 .0)
 
 pack-values-requires : tie.Need-pack-values-requires
 pack-values-requires c κs =
-    let start = c .before .before .before .before .before .before .before .before .before in
-    let made = c .before .before .before .respond in
+    let after-respond = c .before .before .before in
+    let start = after-respond .before .before .before .before .before .before in
     let n = start .args .p .n in
-    let held = lent-part n (replicate 256 0) (made .last .1 .1 .1 .0) (start .pre .0 .n-fits) (made .kept .1 .1 .1 .0) ∙ made .ensures in
-    let long = lent-length n (replicate 256 0) (made .last .1 .1 .1 .0) (start .pre .0 .n-fits) (made .kept .1 .1 .1 .0) in (
+    let held =
+    lent-part n (replicate 256 0) (after-respond .respond .last .1 .1 .1 .0) (start .pre .0 .n-fits)
+    (after-respond .respond .kept .1 .1 .1 .0) ∙ after-respond .respond .ensures
+    in
+    let long =
+    lent-length n (replicate 256 0) (after-respond .respond .last .1 .1 .1 .0) (start .pre .0 .n-fits)
+    (after-respond .respond .kept .1 .1 .1 .0)
+    in (
       rw held (kept-below 127 _ (below-response _ _ _)),
       start .pre .3 ∙ ap (λ (k : ℕ). size 7 k) long,
     )
@@ -86,13 +95,14 @@ same-length c = search needs
 returns : tie.Need-returns
 unfolding responseOf
 returns c =
-    let start = c .before .before .before .before .before .before .before .before .before .before .before .before in
-    let pack-values-call = c .before .before .pack-values in
-    let made = c .before .before .before .before .before .before .respond in
+    let after-pack-values = c .before .before in
+    let after-respond = after-pack-values .before .before .before .before in
+    let start = after-respond .before .before .before .before .before .before in
     let a = start .args in
-    let held = lent-part (a .p .n) (replicate 256 0) (made .last .1 .1 .1 .0) (start .pre .0 .n-fits) (made .kept .1 .1 .1 .0) ∙ made .ensures
+    let held = lent-part (a .p .n) (replicate 256 0) (after-respond .respond .last .1 .1 .1 .0) (start .pre .0 .n-fits)
+    (after-respond .respond .kept .1 .1 .1 .0) ∙ after-respond .respond .ensures
     ∙ ap (λ (es : List ℕ). response (a .beta .0) (valuesOf (a .p) (a .state .now)) es) (exponents-are start) in
-    pack-values-call .ensures ∙ ap (λ (y : List ℕ). pack 7 y) held
+    after-pack-values .pack-values .ensures ∙ ap (λ (y : List ℕ). pack 7 y) held
 
 pub pack-response-spec : {M : Type 1} → statement M
 pack-response-spec =

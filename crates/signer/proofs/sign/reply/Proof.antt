@@ -1,18 +1,20 @@
 -- `reply`: h and the second challenges in local arrays, then the signature. Assumes nothing.
 use mathlib.Core.Path.{_≡_, refl, _∙_, ap, sym}
 use mathlib.Core.List.{List, _++_}
-use Prim.Native.Nat.{ℕ, _-_, _*_}
+use Prim.Native.Nat.{ℕ, _+_, _*_}
+use native.Mathlib.Nat.{add-assoc}
 use native.Mathlib.Omega.{arith}
 use borrow.Author.Needs.{needs}
 use borrow.Author.Tests.{not-true, not-false}
-use lib.ListN.{length, replicate, take, drop, getD}
+use lib.ListN.{length, replicate, take, drop}
 use lib.Seq.{length-take-le, take-all}
-use Rattle.outcome.specs.Lists.{flat, total}
+use Rattle.outcome.specs.Lists.{flat}
 use Rattle.outcome.proofs.Checks.{refused, done}
-use Rattle.scheme.specs.Sign.{partSize, secondDrawn, secondChallenges}
+use Rattle.scheme.specs.Sign.{secondDrawn, secondChallenges}
+use Rattle.scheme.specs.Verify.{offset}
+use Rattle.scheme.proofs.Challenges.{second-fills}
 use Rattle.keygen.proofs.LentParts.{lent-within, lent-length, lent-part}
-use Rattle.signer.specs.State.{responsesDigest, partAt}
-use Rattle.signer.proofs.Signed.{parts-total, behind}
+use Rattle.signer.specs.State.{hOf, partAt}
 use Rattle.signer.proofs.sign.reply.Statement.{statement}
 use Rattle.signer.proofs.sign.reply.Tie as tie
 
@@ -21,17 +23,21 @@ array-borrow-prefix-h c = search needs
 
 h-held : (c : tie.After-respond-all) →
     let start = c .before .before .before .before .before .before .before .before .before .before in
-    take (start .args .p .digest) (c .respond-all .last .1 .1 .1 .0 ++ drop (start .args .p .digest) (replicate 64 0)) ≡ responsesDigest (start .args .p) (start .args .states .now) (start .args .betas .now)
+    take (start .args .p .digest) (c .respond-all .last .1 .1 .1 .0 ++ drop (start .args .p .digest) (replicate 64 0))
+    ≡ hOf (start .args .p) (start .args .states .now) (start .args .betas .now)
 h-held c =
     let start = c .before .before .before .before .before .before .before .before .before .before in
-    lent-part (start .args .p .digest) (replicate 64 0) (c .respond-all .last .1 .1 .1 .0) (start .pre .0 .0 .digest-fits) (c .respond-all .kept .1 .1 .1 .0) ∙ c .respond-all .ensures
+    lent-part (start .args .p .digest) (replicate 64 0) (c .respond-all .last .1 .1 .1 .0)
+    (start .pre .0 .0 .digest-fits) (c .respond-all .kept .1 .1 .1 .0) ∙ c .respond-all .ensures
 
 h-long : (c : tie.After-respond-all) →
     let start = c .before .before .before .before .before .before .before .before .before .before in
-    start .args .p .digest ≡ length (take (start .args .p .digest) (c .respond-all .last .1 .1 .1 .0 ++ drop (start .args .p .digest) (replicate 64 0)))
+    start .args .p .digest ≡ length (take (start .args .p .digest)
+    (c .respond-all .last .1 .1 .1 .0 ++ drop (start .args .p .digest) (replicate 64 0)))
 h-long c =
     let start = c .before .before .before .before .before .before .before .before .before .before in
-    lent-length (start .args .p .digest) (replicate 64 0) (c .respond-all .last .1 .1 .1 .0) (start .pre .0 .0 .digest-fits) (c .respond-all .kept .1 .1 .1 .0)
+    lent-length (start .args .p .digest) (replicate 64 0) (c .respond-all .last .1 .1 .1 .0)
+    (start .pre .0 .0 .digest-fits) (c .respond-all .kept .1 .1 .1 .0)
 
 slice-aggregate-respond-all : tie.Need-slice-aggregate-respond-all
 slice-aggregate-respond-all c =
@@ -40,13 +46,19 @@ slice-aggregate-respond-all c =
 
 respond-all-requires : tie.Need-respond-all-requires
 respond-all-requires c κs =
-    let start = c .before .before .before .before .before .before .before .before .before in
-    (start .pre .0 .0, start .pre .0 .3, start .pre .0 .4, length-take-le (start .args .p .digest) (replicate 64 0) (start .pre .0 .0 .digest-fits))
+    let start = c .before .before .before .before .before .before .before .before .before in (
+      start .pre .0 .0,
+      start .pre .0 .3,
+      start .pre .0 .4,
+      length-take-le (start .args .p .digest) (replicate 64 0)
+          (start .pre .0 .0 .digest-fits),
+    )
 
 array-share-prefix-h : tie.Need-array-share-prefix-h
 array-share-prefix-h c =
     let start = c .before .before .before .before .before .before .before .before .before .before .before in
-    lent-within (start .args .p .digest) (replicate 64 0) (c .before .respond-all .last .1 .1 .1 .0) (start .pre .0 .0 .digest-fits) (c .before .respond-all .kept .1 .1 .1 .0)
+    lent-within (start .args .p .digest) (replicate 64 0) (c .before .respond-all .last .1 .1 .1 .0)
+    (start .pre .0 .0 .digest-fits) (c .before .respond-all .kept .1 .1 .1 .0)
 
 slice-aggregate-second-challenges : tie.Need-slice-aggregate-second-challenges
 slice-aggregate-second-challenges c =
@@ -60,46 +72,66 @@ array-borrow-prefix-bs c =
 
 slice-aggregate-second-challenges-2 : tie.Need-slice-aggregate-second-challenges-2
 slice-aggregate-second-challenges-2 c =
-    let start = c .before .before .before .before .before .before .before .before .before .before .before .before .before in
+    let after-respond-all = c .before .before .before in
+    let start = after-respond-all .before .before .before .before .before .before .before .before .before .before in
     sym (length-take-le (start .args .p .t) (replicate 512 0) (start .pre .0 .0 .t-fits))
 
 second-challenges-requires : tie.Need-second-challenges-requires
 second-challenges-requires c κs =
-    let start = c .before .before .before .before .before .before .before .before .before .before .before .before .before in
-    (start .pre .0 .0, start .pre .0 .4 .long, start .pre .0 .4 .ranged, length-take-le (start .args .p .t) (replicate 512 0) (start .pre .0 .0 .t-fits))
+    let after-respond-all = c .before .before .before in
+    let start = after-respond-all .before .before .before .before .before .before .before .before .before .before in (
+      start .pre .0 .0,
+      start .pre .0 .4 .long,
+      start .pre .0 .4 .ranged,
+      length-take-le (start .args .p .t)
+          (replicate 512 0) (start .pre .0 .0 .t-fits),
+    )
 
 returns : tie.Need-returns
 returns c =
-    let start = c .before .before .before .before .before .before .before .before .before .before .before .before .before .before .before .before in
+    let after-second-challenges = c .before .before in
+    let after-respond-all = after-second-challenges .before .before .before .before in
+    let start = after-respond-all .before .before .before .before .before .before .before .before .before .before in
     let a = start .args in
-    let after-respond-all = c .before .before .before .before .before .before in
-    let drawn = c .before .before .second-challenges in
-    let short = ap (λ (h : List ℕ). secondDrawn (a .p) (a .c .now) (a .betas .now) h (a .salt .now) (a .msg .now)) (sym (h-held after-respond-all))
-    ∙ sym (drawn .ensures .answer) ∙ not-true (drawn .result) (c .if1 .taken) in
+    let short = ap (λ (h : List ℕ). secondDrawn (a .p) (a .c .now) (a .betas .now) h (a .salt .now) (a .msg .now))
+    (sym (h-held after-respond-all))
+    ∙ sym (after-second-challenges .second-challenges .ensures .answer)
+    ∙ not-true (after-second-challenges .second-challenges .result) (c .if1 .taken) in
     refused 1 (rw short) refl
 
 -- the second challenges, where they are drawn
 b-held : (c : tie.Else1) →
-    let start = c .before .before .before .before .before .before .before .before .before .before .before .before .before .before .before .before in
-    let second-challenges-call = c .before .before .second-challenges in
-    take (start .args .p .t) (second-challenges-call .last .1 .1 .1 .1 .1 .1 .0 ++ drop (start .args .p .t) (replicate 512 0))
-    ≡ secondChallenges (start .args .p) (start .args .c .now) (start .args .betas .now) (responsesDigest (start .args .p) (start .args .states .now) (start .args .betas .now)) (start .args .salt .now) (start .args .msg .now)
+    let after-second-challenges = c .before .before in
+    let after-respond-all = after-second-challenges .before .before .before .before in
+    let start = after-respond-all .before .before .before .before .before .before .before .before .before .before in
+    take (start .args .p .t) (after-second-challenges .second-challenges .last .1 .1 .1 .1 .1 .1 .0
+    ++ drop (start .args .p .t) (replicate 512 0))
+    ≡ secondChallenges (start .args .p) (start .args .c .now) (start .args .betas .now)
+    (hOf (start .args .p) (start .args .states .now) (start .args .betas .now)) (start .args .salt .now)
+    (start .args .msg .now)
 b-held c =
-    let start = c .before .before .before .before .before .before .before .before .before .before .before .before .before .before .before .before in
+    let after-second-challenges = c .before .before in
+    let after-respond-all = after-second-challenges .before .before .before .before in
+    let start = after-respond-all .before .before .before .before .before .before .before .before .before .before in
     let a = start .args in
-    let after-respond-all = c .before .before .before .before .before .before in
-    let drawn = c .before .before .second-challenges in
-    let long : length (drawn .last .1 .1 .1 .1 .1 .1 .0) ≡ a .p .t = drawn .kept .1 .1 .1 .1 .1 .1 .0 ∙ length-take-le {A = ℕ} (a .p .t) (replicate 512 0) (start .pre .0 .0 .t-fits) in
-    lent-part (a .p .t) (replicate 512 0) (drawn .last .1 .1 .1 .1 .1 .1 .0) (start .pre .0 .0 .t-fits) (drawn .kept .1 .1 .1 .1 .1 .1 .0)
-    ∙ sym (take-all (a .p .t) (drawn .last .1 .1 .1 .1 .1 .1 .0) (omega arith))
-    ∙ drawn .ensures .content (not-false (drawn .result) (c .if1 .left))
-    ∙ ap (λ (h : List ℕ). secondChallenges (a .p) (a .c .now) (a .betas .now) h (a .salt .now) (a .msg .now)) (h-held after-respond-all)
+    let long : length (after-second-challenges .second-challenges .last .1 .1 .1 .1 .1 .1 .0) ≡ a .p .t =
+    after-second-challenges .second-challenges .kept .1 .1 .1 .1 .1 .1 .0
+    ∙ length-take-le {A = ℕ} (a .p .t) (replicate 512 0) (start .pre .0 .0 .t-fits)
+    in
+    lent-part (a .p .t) (replicate 512 0) (after-second-challenges .second-challenges .last .1 .1 .1 .1 .1 .1 .0)
+    (start .pre .0 .0 .t-fits) (after-second-challenges .second-challenges .kept .1 .1 .1 .1 .1 .1 .0)
+    ∙ sym (take-all (a .p .t) (after-second-challenges .second-challenges .last .1 .1 .1 .1 .1 .1 .0) (omega arith))
+    ∙ after-second-challenges .second-challenges .ensures .content
+    (not-false (after-second-challenges .second-challenges .result) (c .if1 .left))
+    ∙ ap (λ (h : List ℕ). secondChallenges (a .p) (a .c .now) (a .betas .now) h (a .salt .now) (a .msg .now))
+    (h-held after-respond-all)
 
 array-share-prefix-h-2 : tie.Need-array-share-prefix-h-2
 array-share-prefix-h-2 c =
-    let start = c .before .before .before .before .before .before .before .before .before .before .before .before .before .before .before .before in
-    let respond-all-call = c .before .before .before .before .before .before .respond-all in
-    lent-within (start .args .p .digest) (replicate 64 0) (respond-all-call .last .1 .1 .1 .0) (start .pre .0 .0 .digest-fits) (respond-all-call .kept .1 .1 .1 .0)
+    let after-respond-all = c .before .before .before .before .before .before in
+    let start = after-respond-all .before .before .before .before .before .before .before .before .before .before in
+    lent-within (start .args .p .digest) (replicate 64 0) (after-respond-all .respond-all .last .1 .1 .1 .0)
+    (start .pre .0 .0 .digest-fits) (after-respond-all .respond-all .kept .1 .1 .1 .0)
 
 slice-aggregate-write-signature : tie.Need-slice-aggregate-write-signature
 slice-aggregate-write-signature c =
@@ -108,32 +140,42 @@ slice-aggregate-write-signature c =
 
 array-share-prefix-bs : tie.Need-array-share-prefix-bs
 array-share-prefix-bs c =
-    let start = c .before .before .before .before .before .before .before .before .before .before .before .before .before .before .before .before .before in
-    let second-challenges-call = c .before .before .before .second-challenges in
-    lent-within (start .args .p .t) (replicate 512 0) (second-challenges-call .last .1 .1 .1 .1 .1 .1 .0) (start .pre .0 .0 .t-fits) (second-challenges-call .kept .1 .1 .1 .1 .1 .1 .0)
+    let after-second-challenges = c .before .before .before in
+    let after-respond-all = after-second-challenges .before .before .before .before in
+    let start = after-respond-all .before .before .before .before .before .before .before .before .before .before in
+    lent-within (start .args .p .t) (replicate 512 0)
+    (after-second-challenges .second-challenges .last .1 .1 .1 .1 .1 .1 .0) (start .pre .0 .0 .t-fits)
+    (after-second-challenges .second-challenges .kept .1 .1 .1 .1 .1 .1 .0)
 
 slice-aggregate-write-signature-2 : tie.Need-slice-aggregate-write-signature-2
 slice-aggregate-write-signature-2 c =
-    let start = c .before .before .before .before .before .before .before .before .before .before .before .before .before .before .before .before .before .before in
-    let second-challenges-call = c .before .before .before .before .second-challenges in
-    lent-length (start .args .p .t) (replicate 512 0) (second-challenges-call .last .1 .1 .1 .1 .1 .1 .0) (start .pre .0 .0 .t-fits) (second-challenges-call .kept .1 .1 .1 .1 .1 .1 .0)
+    let after-second-challenges = c .before .before .before .before in
+    let after-respond-all = after-second-challenges .before .before .before .before in
+    let start = after-respond-all .before .before .before .before .before .before .before .before .before .before in
+    lent-length (start .args .p .t) (replicate 512 0)
+    (after-second-challenges .second-challenges .last .1 .1 .1 .1 .1 .1 .0) (start .pre .0 .0 .t-fits)
+    (after-second-challenges .second-challenges .kept .1 .1 .1 .1 .1 .1 .0)
 
 write-signature-requires : tie.Need-write-signature-requires
 write-signature-requires c κs =
-    let start = c .before .before .before .before .before .before .before .before .before .before .before .before .before .before .before .before .before .before .before in
+    let after-if1 = c .before .before .before in
+    let after-second-challenges = after-if1 .before .before in
+    let after-respond-all = after-second-challenges .before .before .before .before in
+    let start = after-respond-all .before .before .before .before .before .before .before .before .before .before in
     let pre = start .pre in
     let a = start .args in
-    let after-if1 = c .before .before .before in
-    let after-respond-all = c .before .before .before .before .before .before .before .before .before in
-    let second-challenges-call = c .before .before .before .before .before .second-challenges in
-    let all = ap (λ (b : List ℕ). total (λ j. partSize (a .p) (getD b j 0)) (a .p .t)) (b-held after-if1)
-    ∙ parts-total (a .p) (pre .0 .0) (a .c .now) (a .betas .now) _ (a .salt .now) (a .msg .now) in (
+    let all =
+    ap (λ (b : List ℕ). offset (a .p) b (a .p .t)) (b-held after-if1)
+    ∙ second-fills (a .p) (pre .0 .0) (a .c .now) (a .betas .now) _ (a .salt .now) (a .msg .now)
+    in (
       pre .0,
       (
         (pre .1 .1, pre .1 .0, sym (h-long after-respond-all)),
         (
-          sym (lent-length (a .p .t) (replicate 512 0) (second-challenges-call .last .1 .1 .1 .1 .1 .1 .0) (pre .0 .0 .t-fits) (second-challenges-call .kept .1 .1 .1 .1 .1 .1 .0)),
-          behind (3 * a .p .digest) (a .p .w * partSize (a .p) 1) ((a .p .t - a .p .w) * partSize (a .p) 0) _ _ (pre .1 .2) all,
+          sym (lent-length (a .p .t) (replicate 512 0)
+              (after-second-challenges .second-challenges .last .1 .1 .1 .1 .1 .1 .0) (pre .0 .0 .t-fits)
+              (after-second-challenges .second-challenges .kept .1 .1 .1 .1 .1 .1 .0)),
+          pre .1 .2 ∙ add-assoc (3 * a .p .digest) _ _ ∙ ap (λ (n : ℕ). 3 * a .p .digest + n) (sym all),
         ),
       ),
     )
@@ -143,20 +185,22 @@ same-length c = search needs
 
 returns-2 : tie.Need-returns-2
 returns-2 c =
-    let start = c .before .before .before .before .before .before .before .before .before .before .before .before .before .before .before .before .before .before .before .before .before .before in
+    let after-write-signature = c .before .before in
+    let after-if1 = after-write-signature .before .before .before .before in
+    let after-second-challenges = after-if1 .before .before in
+    let after-respond-all = after-second-challenges .before .before .before .before in
+    let start = after-respond-all .before .before .before .before .before .before .before .before .before .before in
     let a = start .args in
-    let after-respond-all = c .before .before .before .before .before .before .before .before .before .before .before .before in
-    let after-if1 = c .before .before .before .before .before .before in
-    let if1 = c .before .before .before .before .before .before .if1 in
-    let write-signature-call = c .before .before .write-signature in
-    let drawn = c .before .before .before .before .before .before .before .before .second-challenges in
     let h-is = h-held after-respond-all in
     let b-is = b-held after-if1 in
-    let suffices = ap (λ (h : List ℕ). secondDrawn (a .p) (a .c .now) (a .betas .now) h (a .salt .now) (a .msg .now)) (sym h-is)
-    ∙ sym (drawn .ensures .answer) ∙ not-false (drawn .result) (if1 .left) in
+    let suffices = ap (λ (h : List ℕ). secondDrawn (a .p) (a .c .now) (a .betas .now) h (a .salt .now) (a .msg .now))
+    (sym h-is)
+    ∙ sym (after-second-challenges .second-challenges .ensures .answer)
+    ∙ not-false (after-second-challenges .second-challenges .result) (after-if1 .if1 .left) in
     done (rw suffices)
-    (write-signature-call .ensures
-    ∙ (λ i. a .salt .now ++ a .c .now ++ h-is i ++ flat (partAt (a .p) (a .key .now) (a .seeds .now) (a .states .now) (a .betas .now) (b-is i)) (a .p .t)))
+    (after-write-signature .write-signature .ensures
+    ∙ (λ i. a .salt .now ++ a .c .now ++ h-is i ++ flat
+    (partAt (a .p) (a .states .now) (a .betas .now) (a .key .now) (a .seeds .now) (b-is i)) (a .p .t)))
 
 pub reply-spec : {M : Type 1} → statement M
 reply-spec =

@@ -13,7 +13,15 @@ use Rattle.linear.proofs.Kept.{kept-below}
 use Rattle.linear.proofs.Ranges.{below-transformation}
 use Rattle.keygen.proofs.LentParts.{lent-within, lent-length, lent-part}
 use Rattle.signer.specs.State.{exponentsOf}
-use Rattle.signer.proofs.Written.{Written, written-first, written-next, written-last, written-length, part-length, rest-length}
+use Rattle.signer.proofs.Written.{
+  Written,
+  written-first,
+  written-next,
+  written-last,
+  written-length,
+  part-length,
+  rest-length,
+}
 use Rattle.signer.proofs.Loops.{cut, length-cut}
 use Rattle.signer.proofs.write.write_opening.Statement.{statement}
 use Rattle.signer.proofs.write.write_opening.Tie as tie
@@ -44,38 +52,47 @@ sizes c =
     let start = c .before .before .before .before .before .before .before .before in
     start .pre .4 ∙ sym (λ i. c .before .packed-size .ensures i + c .packed-size2 .ensures i + start .args .p .digest)
 
-exponents-are : (c : tie.Start) → take (c .args .p .n + c .args .p .n - c .args .p .n) (drop (c .args .p .n) (c .args .state .now)) ≡ exponentsOf (c .args .p) (c .args .state .now)
+exponents-are : (c : tie.Start) → take (c .args .p .n + c .args .p .n - c .args .p .n)
+    (drop (c .args .p .n) (c .args .state .now)) ≡ exponentsOf (c .args .p) (c .args .state .now)
 exponents-are c = cut (c .args .p .n) (c .args .p .n + c .args .p .n) (c .args .p .n) (c .args .state .now) refl
 
 σ-held : (c : tie.After-transform) →
     let start = c .before .before .before .before .before .before .before .before .before .before .before in
-    take (start .args .p .n) (c .transform .last .1 .1 .0 ++ drop (start .args .p .n) (replicate 256 0)) ≡ transformation (start .args .key .now) (exponentsOf (start .args .p) (start .args .state .now))
+    take (start .args .p .n) (c .transform .last .1 .1 .0 ++ drop (start .args .p .n) (replicate 256 0))
+    ≡ transformation (start .args .key .now) (exponentsOf (start .args .p) (start .args .state .now))
 σ-held c =
     let start = c .before .before .before .before .before .before .before .before .before .before .before in
-    lent-part (start .args .p .n) (replicate 256 0) (c .transform .last .1 .1 .0) (start .pre .0 .n-fits) (c .transform .kept .1 .1 .0)
+    lent-part (start .args .p .n) (replicate 256 0) (c .transform .last .1 .1 .0) (start .pre .0 .n-fits)
+    (c .transform .kept .1 .1 .0)
     ∙ c .transform .ensures
     ∙ ap (λ (es : List ℕ). transformation (start .args .key .now) es) (exponents-are start)
 
 response-written : (c : tie.After-pack-response) →
-    let start = c .before .before .before .before .before .before .before .before .before .before .before .before .before .before in
-    let packed-size-call = c .before .before .before .before .before .before .before .packed-size in
-    Written (packed-size-call .result) (c .pack-response .last .1 .1 .1 .0) (start .args .part .now) (c .pack-response .last .1 .1 .1 .0 ++ drop (packed-size-call .result) (start .args .part .now))
+    let after-packed-size = c .before .before .before .before .before .before .before in
+    let start = after-packed-size .before .before .before .before .before .before .before in
+    Written (after-packed-size .packed-size .result) (c .pack-response .last .1 .1 .1 .0) (start .args .part .now)
+    (c .pack-response .last .1 .1 .1 .0 ++ drop (after-packed-size .packed-size .result) (start .args .part .now))
 response-written c =
     let after-packed-size2 = c .before .before .before .before .before .before in
     written-first _ _ _ (omega (arith, sizes after-packed-size2)) (c .pack-response .kept .1 .1 .1 .0)
 
 both-written : (c : tie.After-pack-exponents) →
-    let start = c .before .before .before .before .before .before .before .before .before .before .before .before .before .before .before .before .before .before .before in
-    let packed-size-call = c .before .before .before .before .before .before .before .before .before .before .before .before .packed-size in
-    let packed-size2-call = c .before .before .before .before .before .before .before .before .before .before .before .packed-size2 in
-    let pack-response-call = c .before .before .before .before .before .pack-response in
-    Written (packed-size-call .result + packed-size2-call .result) (pack-response-call .last .1 .1 .1 .0 ++ c .pack-exponents .last .1 .0) (start .args .part .now)
-    (putMid (packed-size-call .result) (packed-size-call .result + packed-size2-call .result - packed-size-call .result)
-    (pack-response-call .last .1 .1 .1 .0 ++ drop (packed-size-call .result) (start .args .part .now)) (c .pack-exponents .last .1 .0))
+    let after-pack-response = c .before .before .before .before .before in
+    let after-packed-size2 = after-pack-response .before .before .before .before .before .before in
+    let after-packed-size = after-packed-size2 .before in
+    let start = after-packed-size .before .before .before .before .before .before .before in
+    Written (after-packed-size .packed-size .result + after-packed-size2 .packed-size2 .result)
+    (after-pack-response .pack-response .last .1 .1 .1 .0 ++ c .pack-exponents .last .1 .0) (start .args .part .now)
+    (putMid (after-packed-size .packed-size .result)
+    (after-packed-size .packed-size .result + after-packed-size2 .packed-size2 .result -
+    after-packed-size .packed-size .result)
+    (after-pack-response .pack-response .last .1 .1 .1 .0
+    ++ drop (after-packed-size .packed-size .result) (start .args .part .now)) (c .pack-exponents .last .1 .0))
 both-written c =
     let after-pack-response = c .before .before .before .before .before in
-    let after-packed-size2 = c .before .before .before .before .before .before .before .before .before .before .before in
-    written-next (response-written after-pack-response) _ _ (omega arith) (omega (arith, sizes after-packed-size2)) (c .pack-exponents .kept .1 .0)
+    let after-packed-size2 = after-pack-response .before .before .before .before .before .before in
+    written-next (response-written after-pack-response) _ _ (omega arith) (omega (arith, sizes after-packed-size2))
+    (c .pack-exponents .kept .1 .0)
 
 add-last : tie.Need-add-last
 add-last c = omega (arith, sizes c)
@@ -116,34 +133,38 @@ slice-relend-prefix-pack-response c =
 
 slice-aggregate-pack-response : tie.Need-slice-aggregate-pack-response
 slice-aggregate-pack-response c =
-    let start = c .before .before .before .before .before .before .before .before .before .before .before .before .before in
-    let packed-size-call = c .before .before .before .before .before .before .packed-size in
     let after-packed-size2 = c .before .before .before .before .before in
-    sym (length-take-le (packed-size-call .result) (start .args .part .now) (omega (arith, sizes after-packed-size2)))
+    let after-packed-size = after-packed-size2 .before in
+    let start = after-packed-size .before .before .before .before .before .before .before in
+    sym (length-take-le (after-packed-size .packed-size .result) (start .args .part .now)
+    (omega (arith, sizes after-packed-size2)))
 
 pack-response-requires : tie.Need-pack-response-requires
 pack-response-requires c κs =
-    let start = c .before .before .before .before .before .before .before .before .before .before .before .before .before in
-    let pre = start .pre in
-    let packed-size-call = c .before .before .before .before .before .before .packed-size in
-    let after-packed-size2 = c .before .before .before .before .before in (
+    let after-packed-size2 = c .before .before .before .before .before in
+    let after-packed-size = after-packed-size2 .before in
+    let start = after-packed-size .before .before .before .before .before .before .before in
+    let pre = start .pre in (
       pre .0,
       pre .2,
       pre .3,
-      length-take-le (packed-size-call .result) (start .args .part .now) (omega (arith, sizes after-packed-size2)) ∙ packed-size-call .ensures,
+      length-take-le (after-packed-size .packed-size .result) (start .args .part .now)
+          (omega (arith, sizes after-packed-size2)) ∙ after-packed-size .packed-size .ensures,
     )
 
 array-share-prefix-sigma : tie.Need-array-share-prefix-sigma
 array-share-prefix-sigma c =
-    let start = c .before .before .before .before .before .before .before .before .before .before .before .before .before .before .before .before in
-    let transform-call = c .before .before .before .before .before .transform in
-    lent-within (start .args .p .n) (replicate 256 0) (transform-call .last .1 .1 .0) (start .pre .0 .n-fits) (transform-call .kept .1 .1 .0)
+    let after-transform = c .before .before .before .before .before in
+    let start = after-transform .before .before .before .before .before .before .before .before .before .before .before in
+    lent-within (start .args .p .n) (replicate 256 0) (after-transform .transform .last .1 .1 .0)
+    (start .pre .0 .n-fits) (after-transform .transform .kept .1 .1 .0)
 
 slice-aggregate-pack-exponents : tie.Need-slice-aggregate-pack-exponents
 slice-aggregate-pack-exponents c =
-    let start = c .before .before .before .before .before .before .before .before .before .before .before .before .before .before .before .before .before in
-    let transform-call = c .before .before .before .before .before .before .transform in
-    lent-length (start .args .p .n) (replicate 256 0) (transform-call .last .1 .1 .0) (start .pre .0 .n-fits) (transform-call .kept .1 .1 .0)
+    let after-transform = c .before .before .before .before .before .before in
+    let start = after-transform .before .before .before .before .before .before .before .before .before .before .before in
+    lent-length (start .args .p .n) (replicate 256 0) (after-transform .transform .last .1 .1 .0)
+    (start .pre .0 .n-fits) (after-transform .transform .kept .1 .1 .0)
 
 sub-pack-exponents : tie.Need-sub-pack-exponents
 sub-pack-exponents c = search needs
@@ -154,34 +175,38 @@ part-pack-exponents-start c = search needs
 part-pack-exponents-end : tie.Need-part-pack-exponents-end
 part-pack-exponents-end c =
     let after-pack-response = c .before .before .before in
-    let after-packed-size2 = c .before .before .before .before .before .before .before .before .before in
+    let after-packed-size2 = after-pack-response .before .before .before .before .before .before in
     omega (arith, written-length (response-written after-pack-response), sizes after-packed-size2)
 
 pack-exponents-requires : tie.Need-pack-exponents-requires
 pack-exponents-requires c κs =
-    let start = c .before .before .before .before .before .before .before .before .before .before .before .before .before .before .before .before .before .before in
-    let transform-call = c .before .before .before .before .before .before .before .transform in
-    let packed-size-call = c .before .before .before .before .before .before .before .before .before .before .before .packed-size in
-    let packed-size2-call = c .before .before .before .before .before .before .before .before .before .before .packed-size2 in
-    let after-transform = c .before .before .before .before .before .before .before in
     let after-pack-response = c .before .before .before .before in
-    let after-packed-size2 = c .before .before .before .before .before .before .before .before .before .before in
-    let long = lent-length (start .args .p .n) (replicate 256 0) (transform-call .last .1 .1 .0) (start .pre .0 .n-fits) (transform-call .kept .1 .1 .0) in
-    let left : packed-size-call .result + packed-size2-call .result - packed-size-call .result ≡ packed-size2-call .result = omega arith in (
+    let after-transform = after-pack-response .before .before .before in
+    let after-packed-size2 = after-transform .before .before .before in
+    let after-packed-size = after-packed-size2 .before in
+    let start = after-packed-size .before .before .before .before .before .before .before in
+    let long =
+    lent-length (start .args .p .n) (replicate 256 0) (after-transform .transform .last .1 .1 .0)
+    (start .pre .0 .n-fits) (after-transform .transform .kept .1 .1 .0)
+    in
+    let left : after-packed-size .packed-size .result + after-packed-size2 .packed-size2 .result - after-packed-size .packed-size .result ≡ after-packed-size2 .packed-size2 .result =
+    omega arith
+    in (
       rw (σ-held after-transform) (kept-below 7 _ (below-transformation _ _)),
-      part-length (response-written after-pack-response) _ (omega (arith, sizes after-packed-size2)) ∙ left ∙ packed-size2-call .ensures ∙ ap (λ (n : ℕ). size 3 n) long,
+      part-length (response-written after-pack-response) _ (omega (arith, sizes after-packed-size2)) ∙ left
+          ∙ after-packed-size2 .packed-size2 .ensures ∙ ap (λ (n : ℕ). size 3 n) long,
     )
 
 sub-copy : tie.Need-sub-copy
 sub-copy c =
     let after-pack-exponents = c .before .before in
-    let after-packed-size2 = c .before .before .before .before .before .before .before .before .before .before .before .before .before in
+    let after-packed-size2 = after-pack-exponents .before .before .before .before .before .before .before .before .before .before .before in
     omega (arith, written-length (both-written after-pack-exponents), sizes after-packed-size2)
 
 part-copy-start : tie.Need-part-copy-start
 part-copy-start c =
     let after-pack-exponents = c .before .before in
-    let after-packed-size2 = c .before .before .before .before .before .before .before .before .before .before .before .before .before in
+    let after-packed-size2 = after-pack-exponents .before .before .before .before .before .before .before .before .before .before .before in
     omega (arith, written-length (both-written after-pack-exponents), sizes after-packed-size2)
 
 part-copy-end : tie.Need-part-copy-end
@@ -195,19 +220,21 @@ part-copy-start-2 c = search needs
 
 part-copy-end-2 : tie.Need-part-copy-end-2
 part-copy-end-2 c =
-    let start = c .before .before .before .before .before .before .before .before .before .before .before .before .before .before .before .before .before .before .before .before .before .before in
+    let after-transform = c .before .before .before .before .before .before .before .before .before .before .before in
+    let start = after-transform .before .before .before .before .before .before .before .before .before .before .before in
     omega (arith, start .pre .3 .sized)
 
 copy-requires : tie.Need-copy-requires
 copy-requires c κs =
-    let start = c .before .before .before .before .before .before .before .before .before .before .before .before .before .before .before .before .before .before .before .before .before .before .before in
-    let a = start .args in
-    let packed-size-call = c .before .before .before .before .before .before .before .before .before .before .before .before .before .before .before .before .packed-size in
-    let packed-size2-call = c .before .before .before .before .before .before .before .before .before .before .before .before .before .before .before .packed-size2 in
-    let after-packed-size2 = c .before .before .before .before .before .before .before .before .before .before .before .before .before .before .before in
     let after-pack-exponents = c .before .before .before .before in
+    let after-packed-size2 = after-pack-exponents .before .before .before .before .before .before .before .before .before .before .before in
+    let after-packed-size = after-packed-size2 .before in
+    let start = after-packed-size .before .before .before .before .before .before .before in
+    let a = start .args in
     let at = 2 * a .p .n + a .p .digest in
-    let left : length (a .part .now) - (packed-size-call .result + packed-size2-call .result) ≡ a .p .digest = omega (arith, sizes after-packed-size2) in
+    let left : length (a .part .now) - (after-packed-size .packed-size .result + after-packed-size2 .packed-size2 .result) ≡ a .p .digest =
+    omega (arith, sizes after-packed-size2)
+    in
     rest-length (both-written after-pack-exponents) ∙ left
     ∙ sym (ap (λ (xs : List ℕ). length xs) (cut at (at + a .p .digest) (a .p .digest) (a .state .now) refl)
     ∙ length-cut at (a .p .digest) (a .state .now) (omega (arith, start .pre .3 .sized)))
@@ -219,18 +246,18 @@ same-length c =
 
 returns : tie.Need-returns
 returns c =
-    let start = c .before .before .before .before .before .before .before .before .before .before .before .before .before .before .before .before .before .before .before .before .before .before .before .before .before .before in
+    let after-copy = c .before .before in
+    let after-pack-exponents = after-copy .before .before .before .before .before in
+    let after-pack-response = after-pack-exponents .before .before .before .before .before in
+    let after-transform = after-pack-response .before .before .before in
+    let start = after-transform .before .before .before .before .before .before .before .before .before .before .before in
     let a = start .args in
-    let pack-response-call = c .before .before .before .before .before .before .before .before .before .before .before .before .pack-response in
-    let pack-exponents-call = c .before .before .before .before .before .before .before .pack-exponents in
-    let after-transform = c .before .before .before .before .before .before .before .before .before .before .before .before .before .before .before in
-    let copy-call = c .before .before .copy in
-    let after-pack-exponents = c .before .before .before .before .before .before .before in
     let at = 2 * a .p .n + a .p .digest in
-    let response-is = pack-response-call .ensures in
-    let σ-is = pack-exponents-call .ensures ∙ ap (λ (s : List ℕ). pack 3 s) (σ-held after-transform) in
-    let c1-is = copy-call .ensures ∙ cut at (at + a .p .digest) (a .p .digest) (a .state .now) refl in
-    written-last (both-written after-pack-exponents) (copy-call .last .0) ∙ (λ k. response-is k ++ σ-is k ++ c1-is k)
+    let response-is = after-pack-response .pack-response .ensures in
+    let σ-is = after-pack-exponents .pack-exponents .ensures ∙ ap (λ (s : List ℕ). pack 3 s) (σ-held after-transform) in
+    let c1-is = after-copy .copy .ensures ∙ cut at (at + a .p .digest) (a .p .digest) (a .state .now) refl in
+    written-last (both-written after-pack-exponents) (after-copy .copy .last .0)
+    ∙ (λ k. response-is k ++ σ-is k ++ c1-is k)
 
 pub write-opening-spec : {M : Type 1} → statement M
 write-opening-spec =

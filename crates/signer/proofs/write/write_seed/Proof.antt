@@ -19,7 +19,8 @@ add-end c = search needs
 
 seed-written : (c : tie.After-copy) →
     let start = c .before .before .before .before .before .before .before in
-    Written (start .args .p .seed) (c .copy .last .0) (start .args .part .now) (c .copy .last .0 ++ drop (start .args .p .seed) (start .args .part .now))
+    Written (start .args .p .seed) (c .copy .last .0) (start .args .part .now)
+    (c .copy .last .0 ++ drop (start .args .p .seed) (start .args .part .now))
 seed-written c =
     let start = c .before .before .before .before .before .before .before in
     written-first _ _ _ (omega (arith, start .pre .3)) (c .copy .kept .0)
@@ -41,14 +42,14 @@ copy-requires c κs =
 
 sub-copy : tie.Need-sub-copy
 sub-copy c =
-    let start = c .before .before .before .before .before .before .before .before .before in
     let after-copy = c .before .before in
+    let start = after-copy .before .before .before .before .before .before .before in
     omega (arith, written-length (seed-written after-copy), start .pre .3)
 
 part-copy-start : tie.Need-part-copy-start
 part-copy-start c =
-    let start = c .before .before .before .before .before .before .before .before .before in
     let after-copy = c .before .before in
+    let start = after-copy .before .before .before .before .before .before .before in
     omega (arith, written-length (seed-written after-copy), start .pre .3)
 
 part-copy-end : tie.Need-part-copy-end
@@ -67,12 +68,13 @@ part-copy-end-2 c =
 
 copy-requires-2 : tie.Need-copy-requires-2
 copy-requires-2 c κs =
-    let start = c .before .before .before .before .before .before .before .before .before .before .before in
-    let a = start .args in
     let after-copy = c .before .before .before .before in
+    let start = after-copy .before .before .before .before .before .before .before in
+    let a = start .args in
     let left : length (a .part .now) - a .p .seed ≡ a .p .digest = omega (arith, start .pre .3) in
     rest-length (seed-written after-copy) ∙ left
-    ∙ sym (ap (λ (xs : List ℕ). length xs) (cut (2 * a .p .n) (2 * a .p .n + a .p .digest) (a .p .digest) (a .state .now) refl)
+    ∙ sym (ap (λ (xs : List ℕ). length xs) (cut (2 * a .p .n) (2 * a .p .n + a .p .digest) (a .p .digest)
+    (a .state .now) refl)
     ∙ length-cut (2 * a .p .n) (a .p .digest) (a .state .now) (omega (arith, start .pre .2 .sized)))
 
 same-length : tie.Need-same-length
@@ -80,14 +82,15 @@ same-length c = search needs
 
 returns : tie.Need-returns
 returns c =
-    let start = c .before .before .before .before .before .before .before .before .before .before .before .before .before .before in
+    let after-copy2 = c .before .before in
+    let after-copy = after-copy2 .before .before .before .before .before in
+    let start = after-copy .before .before .before .before .before .before .before in
     let a = start .args in
-    let copy-call = c .before .before .before .before .before .before .before .copy in
-    let copy2-call = c .before .before .copy2 in
-    let after-copy = c .before .before .before .before .before .before .before in
-    let seed-is = copy-call .ensures in
-    let c0-is = copy2-call .ensures ∙ cut (2 * a .p .n) (2 * a .p .n + a .p .digest) (a .p .digest) (a .state .now) refl in
-    written-last (seed-written after-copy) (copy2-call .last .0) ∙ (λ k. seed-is k ++ c0-is k)
+    let seed-is = after-copy .copy .ensures in
+    let c0-is =
+    after-copy2 .copy2 .ensures ∙ cut (2 * a .p .n) (2 * a .p .n + a .p .digest) (a .p .digest) (a .state .now) refl
+    in
+    written-last (seed-written after-copy) (after-copy2 .copy2 .last .0) ∙ (λ k. seed-is k ++ c0-is k)
 
 pub write-seed-spec : {M : Type 1} → statement M
 write-seed-spec =

@@ -7,38 +7,54 @@ use borrow.Author.Needs.{needs}
 use borrow.Rule.Slice.PartMut.{putMid}
 use lib.ListN.{drop}
 use lib.Seq.{length-take-le}
-use Rattle.signer.proofs.Written.{Written, written-first, written-next, written-last, written-length, part-length, rest-length}
+use Rattle.signer.proofs.Written.{
+  Written,
+  written-first,
+  written-next,
+  written-last,
+  written-length,
+  part-length,
+  rest-length,
+}
 use Rattle.signer.proofs.write.write_signature.Statement.{statement}
 use Rattle.signer.proofs.write.write_signature.Tie as tie
 
 salt-written : (c : tie.After-copy) →
     let start = c .before .before .before .before .before .before .before .before .before .before .before in
-    Written (start .args .p .digest) (c .copy .last .0) (start .args .sig .now) (c .copy .last .0 ++ drop (start .args .p .digest) (start .args .sig .now))
+    Written (start .args .p .digest) (c .copy .last .0) (start .args .sig .now)
+    (c .copy .last .0 ++ drop (start .args .p .digest) (start .args .sig .now))
 salt-written c =
     let start = c .before .before .before .before .before .before .before .before .before .before .before in
     written-first _ _ _ (omega (arith, start .pre .1 .1 .1)) (c .copy .kept .0)
 
 c-written : (c : tie.After-copy2) →
-    let start = c .before .before .before .before .before .before .before .before .before .before .before .before .before .before .before in
-    let copy-call = c .before .before .before .before .copy in
-    Written (start .args .p .digest + start .args .p .digest) (copy-call .last .0 ++ c .copy2 .last .0) (start .args .sig .now)
-    (putMid (start .args .p .digest) (start .args .p .digest + start .args .p .digest - start .args .p .digest) (copy-call .last .0 ++ drop (start .args .p .digest) (start .args .sig .now)) (c .copy2 .last .0))
-c-written c =
-    let start = c .before .before .before .before .before .before .before .before .before .before .before .before .before .before .before in
     let after-copy = c .before .before .before .before in
+    let start = after-copy .before .before .before .before .before .before .before .before .before .before .before in
+    Written (start .args .p .digest + start .args .p .digest) (after-copy .copy .last .0 ++ c .copy2 .last .0)
+    (start .args .sig .now)
+    (putMid (start .args .p .digest) (start .args .p .digest + start .args .p .digest - start .args .p .digest)
+    (after-copy .copy .last .0 ++ drop (start .args .p .digest) (start .args .sig .now)) (c .copy2 .last .0))
+c-written c =
+    let after-copy = c .before .before .before .before in
+    let start = after-copy .before .before .before .before .before .before .before .before .before .before .before in
     written-next (salt-written after-copy) _ _ (omega arith) (omega (arith, start .pre .1 .1 .1)) (c .copy2 .kept .0)
 
 h-written : (c : tie.After-copy3) →
-    let start = c .before .before .before .before .before .before .before .before .before .before .before .before .before .before .before .before .before .before .before in
-    let copy-call = c .before .before .before .before .before .before .before .before .copy in
-    let copy2-call = c .before .before .before .before .copy2 in
-    Written (start .args .p .digest + start .args .p .digest + start .args .p .digest) (copy-call .last .0 ++ copy2-call .last .0 ++ c .copy3 .last .0) (start .args .sig .now)
-    (putMid (start .args .p .digest + start .args .p .digest) (start .args .p .digest + start .args .p .digest + start .args .p .digest - (start .args .p .digest + start .args .p .digest))
-    (putMid (start .args .p .digest) (start .args .p .digest + start .args .p .digest - start .args .p .digest) (copy-call .last .0 ++ drop (start .args .p .digest) (start .args .sig .now)) (copy2-call .last .0))
+    let after-copy2 = c .before .before .before .before in
+    let after-copy = after-copy2 .before .before .before .before in
+    let start = after-copy .before .before .before .before .before .before .before .before .before .before .before in
+    Written (start .args .p .digest + start .args .p .digest + start .args .p .digest)
+    (after-copy .copy .last .0 ++ after-copy2 .copy2 .last .0 ++ c .copy3 .last .0) (start .args .sig .now)
+    (putMid (start .args .p .digest + start .args .p .digest)
+    (start .args .p .digest + start .args .p .digest + start .args .p .digest -
+    (start .args .p .digest + start .args .p .digest))
+    (putMid (start .args .p .digest) (start .args .p .digest + start .args .p .digest - start .args .p .digest)
+    (after-copy .copy .last .0 ++ drop (start .args .p .digest) (start .args .sig .now)) (after-copy2 .copy2 .last .0))
     (c .copy3 .last .0))
 h-written c =
-    let start = c .before .before .before .before .before .before .before .before .before .before .before .before .before .before .before .before .before .before .before in
     let after-copy2 = c .before .before .before .before in
+    let after-copy = after-copy2 .before .before .before .before in
+    let start = after-copy .before .before .before .before .before .before .before .before .before .before .before in
     written-next (c-written after-copy2) _ _ (omega arith) (omega (arith, start .pre .1 .1 .1)) (c .copy3 .kept .0)
 
 add-two : tie.Need-add-two
@@ -64,7 +80,8 @@ slice-aggregate-copy c =
 copy-requires : tie.Need-copy-requires
 copy-requires c κs =
     let start = c .before .before .before .before .before .before .before .before .before .before in
-    length-take-le (start .args .p .digest) (start .args .sig .now) (omega (arith, start .pre .1 .1 .1)) ∙ sym (start .pre .1 .0 .0)
+    length-take-le (start .args .p .digest) (start .args .sig .now) (omega (arith, start .pre .1 .1 .1))
+    ∙ sym (start .pre .1 .0 .0)
 
 sub-copy : tie.Need-sub-copy
 sub-copy c = search needs
@@ -74,14 +91,14 @@ part-copy-start c = search needs
 
 part-copy-end : tie.Need-part-copy-end
 part-copy-end c =
-    let start = c .before .before .before .before .before .before .before .before .before .before .before .before .before in
     let after-copy = c .before .before in
+    let start = after-copy .before .before .before .before .before .before .before .before .before .before .before in
     omega (arith, written-length (salt-written after-copy), start .pre .1 .1 .1)
 
 copy-requires-2 : tie.Need-copy-requires-2
 copy-requires-2 c κs =
-    let start = c .before .before .before .before .before .before .before .before .before .before .before .before .before .before in
     let after-copy = c .before .before .before in
+    let start = after-copy .before .before .before .before .before .before .before .before .before .before .before in
     part-length (salt-written after-copy) _ (omega (arith, start .pre .1 .1 .1)) ∙ omega (arith, start .pre .1 .0 .1)
 
 sub-copy-2 : tie.Need-sub-copy-2
@@ -92,26 +109,30 @@ part-copy-start-2 c = search needs
 
 part-copy-end-2 : tie.Need-part-copy-end-2
 part-copy-end-2 c =
-    let start = c .before .before .before .before .before .before .before .before .before .before .before .before .before .before .before .before .before in
     let after-copy2 = c .before .before in
+    let after-copy = after-copy2 .before .before .before .before in
+    let start = after-copy .before .before .before .before .before .before .before .before .before .before .before in
     omega (arith, written-length (c-written after-copy2), start .pre .1 .1 .1)
 
 copy-requires-3 : tie.Need-copy-requires-3
 copy-requires-3 c κs =
-    let start = c .before .before .before .before .before .before .before .before .before .before .before .before .before .before .before .before .before .before in
     let after-copy2 = c .before .before .before in
+    let after-copy = after-copy2 .before .before .before .before in
+    let start = after-copy .before .before .before .before .before .before .before .before .before .before .before in
     part-length (c-written after-copy2) _ (omega (arith, start .pre .1 .1 .1)) ∙ omega (arith, start .pre .1 .0 .2)
 
 sub-write-parts : tie.Need-sub-write-parts
 sub-write-parts c =
-    let start = c .before .before .before .before .before .before .before .before .before .before .before .before .before .before .before .before .before .before .before .before .before in
     let after-copy3 = c .before .before in
+    let after-copy = after-copy3 .before .before .before .before .before .before .before .before in
+    let start = after-copy .before .before .before .before .before .before .before .before .before .before .before in
     omega (arith, written-length (h-written after-copy3), start .pre .1 .1 .1)
 
 part-write-parts-start : tie.Need-part-write-parts-start
 part-write-parts-start c =
-    let start = c .before .before .before .before .before .before .before .before .before .before .before .before .before .before .before .before .before .before .before .before .before in
     let after-copy3 = c .before .before in
+    let after-copy = after-copy3 .before .before .before .before .before .before .before .before in
+    let start = after-copy .before .before .before .before .before .before .before .before .before .before .before in
     omega (arith, written-length (h-written after-copy3), start .pre .1 .1 .1)
 
 part-write-parts-end : tie.Need-part-write-parts-end
@@ -119,8 +140,9 @@ part-write-parts-end c = search needs
 
 write-parts-requires : tie.Need-write-parts-requires
 write-parts-requires c κs =
-    let start = c .before .before .before .before .before .before .before .before .before .before .before .before .before .before .before .before .before .before .before .before .before .before in
     let after-copy3 = c .before .before .before in
+    let after-copy = after-copy3 .before .before .before .before .before .before .before .before in
+    let start = after-copy .before .before .before .before .before .before .before .before .before .before .before in
     (start .pre .0, (start .pre .1 .1 .0, rest-length (h-written after-copy3) ∙ omega (arith, start .pre .1 .1 .1)))
 
 same-length : tie.Need-same-length
@@ -128,16 +150,16 @@ same-length c = search needs
 
 returns : tie.Need-returns
 returns c =
-    let copy-call = c .before .before .before .before .before .before .before .before .before .before .before .before .before .before .copy in
-    let copy2-call = c .before .before .before .before .before .before .before .before .before .before .copy2 in
-    let copy3-call = c .before .before .before .before .before .before .copy3 in
-    let write-parts-call = c .before .before .write-parts in
-    let after-copy3 = c .before .before .before .before .before .before in
-    let salt-is = copy-call .ensures in
-    let c-is = copy2-call .ensures in
-    let h-is = copy3-call .ensures in
-    let parts-are = write-parts-call .ensures in
-    written-last (h-written after-copy3) (write-parts-call .last .1 .1 .1 .1 .1 .1 .0) ∙ (λ k. salt-is k ++ c-is k ++ h-is k ++ parts-are k)
+    let after-write-parts = c .before .before in
+    let after-copy3 = after-write-parts .before .before .before .before in
+    let after-copy2 = after-copy3 .before .before .before .before in
+    let after-copy = after-copy2 .before .before .before .before in
+    let salt-is = after-copy .copy .ensures in
+    let c-is = after-copy2 .copy2 .ensures in
+    let h-is = after-copy3 .copy3 .ensures in
+    let parts-are = after-write-parts .write-parts .ensures in
+    written-last (h-written after-copy3) (after-write-parts .write-parts .last .1 .1 .1 .1 .1 .1 .0)
+    ∙ (λ k. salt-is k ++ c-is k ++ h-is k ++ parts-are k)
 
 pub write-signature-spec : {M : Type 1} → statement M
 write-signature-spec =
