@@ -13,7 +13,7 @@ use Rattle.outcome.proofs.Checks.{passed, passed-front}
 use Rattle.parameters.specs.declared.Params.{Params}
 use Rattle.profile.specs.declared.Profile.{Profile}
 use Rattle.outcome.specs.Result.{Result, done, refused}
-use Rattle.profile.specs.Rules.{classes}
+use Rattle.profile.specs.Rules.{Class}
 use Rattle.profile.specs.Line.{readLine}
 use Rattle.scheme.specs.Sign.{signatureSize}
 use Rattle.scheme.specs.Verify.{verifyChecks, verify}
@@ -59,15 +59,15 @@ module _ (p : Params) (sealed : List ℕ) (n : ℕ) (size : n ≡ signatureSize 
       ∙ (ap (λ (line : List ℕ). verify p key line (take n sealed)) line-part
       ∙ ap (λ (sig : List ℕ). verify p key (lineIn p sealed) sig) signature-part)
 
-  pub read-part : {x : Result Profile} → x ≡ readLine classes (take (length sealed - n) (drop n sealed))
-      → x ≡ readLine classes (lineIn p sealed)
-  read-part e = e ∙ ap (λ (line : List ℕ). readLine classes line) line-part
+  pub read-part : (table : List Class) {x : Result Profile} → x ≡ readLine table (take (length sealed - n) (drop n sealed))
+      → x ≡ readLine table (lineIn p sealed)
+  read-part table e = e ∙ ap (λ (line : List ℕ). readLine table line) line-part
 
 -- ---- stages
 
-module _ (p : Params) (key sealed : List ℕ) (device : Device) (old : Store) where
+module _ (p : Params) (table : List Class) (key sealed : List ℕ) (device : Device) (old : Store) where
   abbrev All : List Check
-  All = loadChecks p key sealed device (stored old)
+  All = loadChecks p table key sealed device (stored old)
 
   abbrev Sizes : List Check
   Sizes = loadSizes p (length key) (length sealed)
@@ -76,25 +76,25 @@ module _ (p : Params) (key sealed : List ℕ) (device : Device) (old : Store) wh
   Verifying = verifyChecks p key (lineIn p sealed) (signatureIn p sealed)
 
   abbrev Storing : List Check
-  Storing = storeChecks p device (stored old) (readLine classes (lineIn p sealed))
+  Storing = storeChecks p device (stored old) (readLine table (lineIn p sealed))
 
   abbrev Front : List Check
-  Front = (bad-device unless deviceOk classes device ∷ []) ++ Sizes
+  Front = (bad-device unless deviceOk table device ∷ []) ++ Sizes
 
   -- a refusal, and the store as it was
   refuses : (k : ℕ) {r : PutAnswer} → k ≡ firstRefusal All → (k ≡ 0 → ⊥) → (r .answer ≡ k) × (r .store ≡ old)
-      → Loads p key sealed device old r
+      → Loads p table key sealed device old r
   refuses k e other kept =
       record { answer = kept .0 ∙ e; taken = λ z. absurd (other (sym (kept .0) ∙ z)); kept = λ _. kept .1 }
 
-  pub load-device : {r : PutAnswer} → deviceOk classes device ≡ false → (r .answer ≡ 10) × (r .store ≡ old)
-      → Loads p key sealed device old r
+  pub load-device : {r : PutAnswer} → deviceOk table device ≡ false → (r .answer ≡ 10) × (r .store ≡ old)
+      → Loads p table key sealed device old r
   unfolding loadChecks
   load-device bad = refuses 10 (rw bad) (λ z. omega arith)
 
-  module _ (set : deviceOk classes device ≡ true) where
+  module _ (set : deviceOk table device ≡ true) where
     pub load-sizes : (k : ℕ) {r : PutAnswer} → k ≡ firstRefusal Sizes → (k ≡ 0 → ⊥) → (r .answer ≡ k) × (r .store ≡ old)
-        → Loads p key sealed device old r
+        → Loads p table key sealed device old r
     unfolding loadChecks
     load-sizes k e other =
         let here : k ≡ firstRefusal Front = rw set e in
@@ -105,7 +105,7 @@ module _ (p : Params) (key sealed : List ℕ) (device : Device) (old : Store) wh
       front = rw set sized
 
       pub load-verify : (k : ℕ) {r : PutAnswer} → k ≡ verify p key (lineIn p sealed) (signatureIn p sealed) → (k ≡ 0 → ⊥)
-          → (r .answer ≡ k) × (r .store ≡ old) → Loads p key sealed device old r
+          → (r .answer ≡ k) × (r .store ≡ old) → Loads p table key sealed device old r
       unfolding loadChecks verify
       load-verify k e other =
           let here : k ≡ firstRefusal (Front ++ Verifying) = e ∙ sym (passed-front Front Verifying front) in
@@ -117,14 +117,14 @@ module _ (p : Params) (key sealed : List ℕ) (device : Device) (old : Store) wh
         unfolding loadChecks verify
         last = passed-front (Front ++ Verifying) Storing (passed-front Front Verifying front ∙ verified)
 
-        pub load-line : (q : Refusal) {r : PutAnswer} → refused q ≡ readLine classes (lineIn p sealed)
-            → (r .answer ≡ numberOf q) × (r .store ≡ old) → Loads p key sealed device old r
+        pub load-line : (q : Refusal) {r : PutAnswer} → refused q ≡ readLine table (lineIn p sealed)
+            → (r .answer ≡ numberOf q) × (r .store ≡ old) → Loads p table key sealed device old r
         load-line q read =
             let here : numberOf q ≡ firstRefusal Storing = ap (λ (x : Result Profile). firstRefusal (storeChecks p device (stored old) x)) read in
             refuses (numberOf q) (here ∙ sym last) (λ e. passed (q unless false ∷ []) e .0)
 
-        pub load-put : (profile : Profile) {r : PutAnswer} → done profile ≡ readLine classes (lineIn p sealed)
-            → Puts device profile old r → Loads p key sealed device old r
+        pub load-put : (profile : Profile) {r : PutAnswer} → done profile ≡ readLine table (lineIn p sealed)
+            → Puts device profile old r → Loads p table key sealed device old r
         load-put profile read puts =
             let here : firstRefusal (putChecks device profile (stored old)) ≡ firstRefusal Storing =
             ap (λ (x : Result Profile). firstRefusal (storeChecks p device (stored old) x)) read in
@@ -136,41 +136,41 @@ module _ (p : Params) (key sealed : List ℕ) (device : Device) (old : Store) wh
 
 -- ---- over an image
 
-module _ (p : Params) (key sealed country : List ℕ) (class : ℕ) (old : List ℕ) where
-  image-refuses : (k : ℕ) → k ≡ firstRefusal (loadImageChecks p key sealed country class old) → (k ≡ 0 → ⊥)
-      → LoadsImage p key sealed country class old k old
+module _ (p : Params) (table : List Class) (key sealed country : List ℕ) (class : ℕ) (old : List ℕ) where
+  image-refuses : (k : ℕ) → k ≡ firstRefusal (loadImageChecks p table key sealed country class old) → (k ≡ 0 → ⊥)
+      → LoadsImage p table key sealed country class old k old
   image-refuses k e other = record { answers = e; taken = λ z. absurd (other z); kept = λ _. refl }
 
-  pub image-country : (length country ≡ 2 → ⊥) → LoadsImage p key sealed country class old 10 old
+  pub image-country : (length country ≡ 2 → ⊥) → LoadsImage p table key sealed country class old 10 old
   image-country other = image-refuses 10 (rw (ne-eqb (length country) 2 other)) (λ z. omega arith)
 
   module _ (two : length country ≡ 2) where
-    pub image-device : deviceOk classes (deviceOf country class) ≡ false → LoadsImage p key sealed country class old 10 old
+    pub image-device : deviceOk table (deviceOf country class) ≡ false → LoadsImage p table key sealed country class old 10 old
     image-device bad = image-refuses 10 (rw (eq-eqb (length country) 2 two, bad)) (λ z. omega arith)
 
-    module _ (set : deviceOk classes (deviceOf country class) ≡ true) where
-      pub image-size : (length old ≡ storeSize → ⊥) → LoadsImage p key sealed country class old 1 old
+    module _ (set : deviceOk table (deviceOf country class) ≡ true) where
+      pub image-size : (length old ≡ storeSize → ⊥) → LoadsImage p table key sealed country class old 1 old
       image-size other =
           image-refuses 1 (rw (eq-eqb (length country) 2 two, set, ne-eqb (length old) storeSize other)) (λ z. omega arith)
 
       module _ (size : length old ≡ storeSize) where
         -- the loader decides
-        loads : firstRefusal (loadImageChecks p key sealed country class old)
-            ≡ firstRefusal (loadChecks p key sealed (deviceOf country class) (stored (storeOf old)))
+        loads : firstRefusal (loadImageChecks p table key sealed country class old)
+            ≡ firstRefusal (loadChecks p table key sealed (deviceOf country class) (stored (storeOf old)))
         loads = rw (eq-eqb (length country) 2 two, set, eq-eqb (length old) storeSize size)
 
         -- what the loader did with what device and image mean
         pub image-loads : (device : Device) (store : Store) (r : PutAnswer) → device ≡ deviceOf country class → store ≡ storeOf old
-            → Loads p key sealed device store r → Loads p key sealed (deviceOf country class) (storeOf old) r
+            → Loads p table key sealed device store r → Loads p table key sealed (deviceOf country class) (storeOf old) r
         image-loads device store r its means l =
-            subst (λ (d : Device). Loads p key sealed d (storeOf old) r) its (subst (λ (s : Store). Loads p key sealed device s r) means l)
+            subst (λ (d : Device). Loads p table key sealed d (storeOf old) r) its (subst (λ (s : Store). Loads p table key sealed device s r) means l)
 
-        pub image-refused : (r : PutAnswer) → Loads p key sealed (deviceOf country class) (storeOf old) r → (r .answer ≡ 0 → ⊥)
-            → LoadsImage p key sealed country class old (r .answer) old
+        pub image-refused : (r : PutAnswer) → Loads p table key sealed (deviceOf country class) (storeOf old) r → (r .answer ≡ 0 → ⊥)
+            → LoadsImage p table key sealed country class old (r .answer) old
         image-refused r l other = image-refuses (r .answer) (l .answer ∙ sym loads) other
 
-        pub image-loaded : (r : PutAnswer) {new : List ℕ} → Loads p key sealed (deviceOf country class) (storeOf old) r → r .answer ≡ 0
-            → StoreWritten (r .store) new → LoadsImage p key sealed country class old 0 new
+        pub image-loaded : (r : PutAnswer) {new : List ℕ} → Loads p table key sealed (deviceOf country class) (storeOf old) r → r .answer ≡ 0
+            → StoreWritten (r .store) new → LoadsImage p table key sealed country class old 0 new
         image-loaded r l zero written =
             record {
               answers = sym zero ∙ (l .answer ∙ sym loads);

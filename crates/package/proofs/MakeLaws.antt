@@ -17,7 +17,7 @@ use Rattle.profile.specs.declared.Profile.{Profile}
 use Rattle.profile.specs.declared.WriteLine.{WriteLine}
 use Rattle.profile.specs.declared.WriteLine.the-variants.{Written, BadSize, BadProfile}
 use Rattle.outcome.specs.Result.{done, refused, answer, numberIn, refusalIn}
-use Rattle.profile.specs.Rules.{classes, valid}
+use Rattle.profile.specs.Rules.{Class, valid}
 use Rattle.profile.specs.Line.{longest, lineOf, readLine, writeChecks, writeLine, writeAnswer, Writes}
 use Rattle.profile.proofs.RuleLaws.{done-passed, holds as holds-test}
 use Rattle.profile.proofs.Theorems.{line-lengths-hold, writes-read}
@@ -120,29 +120,29 @@ only-false false e = refl
 abbrev pub blank : List ℕ
 blank = replicate longest 0
 
-module _ (profile : Profile) (new : List ℕ) where
-  number-written : (w : WriteLine) → Writes classes profile blank w new → numberIn (writeAnswer w) ≡ pick {A = ℕ} (valid classes profile) 0 5
+module _ (table : List Class) (profile : Profile) (new : List ℕ) where
+  number-written : (w : WriteLine) → Writes table profile blank w new → numberIn (writeAnswer w) ≡ pick {A = ℕ} (valid table profile) 0 5
   unfolding writeLine
   number-written w written =
       ap numberIn (written .answered)
-      ∙ number-answer (writeChecks classes profile blank) (length (lineOf profile))
+      ∙ number-answer (writeChecks table profile blank) (length (lineOf profile))
 
-  pub never-small : Writes classes profile blank BadSize new → ⊥
-  never-small written = never-1 (valid classes profile) (number-written BadSize written)
+  pub never-small : Writes table profile blank BadSize new → ⊥
+  never-small written = never-1 (valid table profile) (number-written BadSize written)
 
-  breaks : Writes classes profile blank BadProfile new → valid classes profile ≡ false
-  breaks written = only-false (valid classes profile) (number-written BadProfile written)
+  breaks : Writes table profile blank BadProfile new → valid table profile ≡ false
+  breaks written = only-false (valid table profile) (number-written BadProfile written)
 
-  module _ (n : ℕ) (written : Writes classes profile blank (Written n) new) where
-    found : (T (eqb (length blank) longest) × (T (valid classes profile) × Unit {0})) × (length (lineOf profile) ≡ n)
+  module _ (n : ℕ) (written : Writes table profile blank (Written n) new) where
+    found : (T (eqb (length blank) longest) × (T (valid table profile) × Unit {0})) × (length (lineOf profile) ≡ n)
     unfolding writeLine
-    found = done-passed (writeChecks classes profile blank) (length (lineOf profile)) n (sym (written .answered))
+    found = done-passed (writeChecks table profile blank) (length (lineOf profile)) n (sym (written .answered))
 
-    obeyed : valid classes profile ≡ true
+    obeyed : valid table profile ≡ true
     obeyed = holds-test _ (found .0 .1 .0)
 
     pub written-short : n ≤ longest
-    written-short = omega (arith, line-lengths-hold classes profile (found .0 .1 .0) .1, found .1)
+    written-short = omega (arith, line-lengths-hold table profile (found .0 .1 .0) .1, found .1)
 
     held : new ≡ lineOf profile ++ drop (length (lineOf profile)) blank
     held = written .content ∙ rw (← written .answered) refl
@@ -152,18 +152,18 @@ module _ (profile : Profile) (new : List ℕ) where
         ap (λ (bytes : List ℕ). take n bytes) held
         ∙ take-at (lineOf profile) (drop (length (lineOf profile)) blank) n (found .1)
 
-module _ (p : Params) (private master salt : List ℕ) (profile : Profile) (old : List ℕ) (before : ℕ) where
+module _ (p : Params) (table : List Class) (private master salt : List ℕ) (profile : Profile) (old : List ℕ) (before : ℕ) where
   -- sizes, rules and signing, in the order in which they refuse
   abbrev sizes : List Check
   sizes = makeSizes p private master salt (length old)
 
   abbrev rules : List Check
-  rules = bad-line unless valid classes profile ∷ []
+  rules = bad-line unless valid table profile ∷ []
 
   abbrev signing : List Check
   signing = signChecks p private master salt (lineOf profile) (signatureSize p)
 
-  pub make-sizes : (k : ℕ) → (k ≡ 0 → ⊥) → k ≡ firstRefusal sizes → MakesPackage p private master salt profile old before k old before
+  pub make-sizes : (k : ℕ) → (k ≡ 0 → ⊥) → k ≡ firstRefusal sizes → MakesPackage p table private master salt profile old before k old before
   unfolding makeChecks
   make-sizes k some e =
       kept (packageOf p private master salt (lineOf profile)) old before k some (by-first sizes rules signing k some e)
@@ -173,58 +173,58 @@ module _ (p : Params) (private master salt : List ℕ) (profile : Profile) (old 
     front-room n new long within =
         (room-lent p private master salt (length old) (sym tested ∙ none), omega (arith, front-length n new within, long))
 
-    pub make-broken : (new : List ℕ) → Writes classes profile blank BadProfile new → MakesPackage p private master salt profile old before 5 old before
+    pub make-broken : (new : List ℕ) → Writes table profile blank BadProfile new → MakesPackage p table private master salt profile old before 5 old before
     unfolding makeChecks
     make-broken new written =
         kept (packageOf p private master salt (lineOf profile)) old before 5 (λ z. omega arith)
-        (by-second sizes rules signing (sym tested ∙ none) 5 (λ z. omega arith) (sym (fails bad-line (valid classes profile) [] (breaks profile new written))))
+        (by-second sizes rules signing (sym tested ∙ none) 5 (λ z. omega arith) (sym (fails bad-line (valid table profile) [] (breaks table profile new written))))
 
-    pub make-sealed : (new : List ℕ) (n : ℕ) → Writes classes profile blank (Written n) new → {k after : ℕ} {out : List ℕ}
-        → Seals p private master salt (take n new) old before k out after → MakesPackage p private master salt profile old before k out after
+    pub make-sealed : (new : List ℕ) (n : ℕ) → Writes table profile blank (Written n) new → {k after : ℕ} {out : List ℕ}
+        → Seals p private master salt (take n new) old before k out after → MakesPackage p table private master salt profile old before k out after
     unfolding makeChecks
     make-sealed new n written {k} {after} {out} sealed =
         front-as {cs = signing} {ds = sizes ++ rules ++ signing}
-        (by-third sizes rules signing (sym tested ∙ none) (holds bad-line (valid classes profile) [] (obeyed profile new n written)))
-        (subst (λ (l : List ℕ). Seals p private master salt l old before k out after) (written-line profile new n written) sealed)
+        (by-third sizes rules signing (sym tested ∙ none) (holds bad-line (valid table profile) [] (obeyed table profile new n written)))
+        (subst (λ (l : List ℕ). Seals p private master salt l old before k out after) (written-line table profile new n written) sealed)
 
 -- ---- from a line
 
-module _ (p : Params) (private master salt line old : List ℕ) (before : ℕ) where
+module _ (p : Params) (table : List Class) (private master salt line old : List ℕ) (before : ℕ) where
   abbrev line-sizes : List Check
   line-sizes = makeSizes p private master salt (length old)
 
   abbrev reading : List Check
-  reading = refusalIn (readLine classes line)
+  reading = refusalIn (readLine table line)
 
   abbrev line-signing : List Check
   line-signing = signChecks p private master salt line (signatureSize p)
 
-  pub make-line-sizes : (k : ℕ) → (k ≡ 0 → ⊥) → k ≡ firstRefusal line-sizes → MakesFromLine p private master salt line old before k old before
+  pub make-line-sizes : (k : ℕ) → (k ≡ 0 → ⊥) → k ≡ firstRefusal line-sizes → MakesFromLine p table private master salt line old before k old before
   unfolding makeLineChecks
   make-line-sizes k some e =
       kept (packageOf p private master salt line) old before k some (by-first line-sizes reading line-signing k some e)
 
   module _ (sized : ℕ) (tested : sized ≡ firstRefusal line-sizes) (none : sized ≡ 0) where
-    refuses : (k : ℕ) → (k ≡ 0 → ⊥) → k ≡ firstRefusal reading → MakesFromLine p private master salt line old before k old before
+    refuses : (k : ℕ) → (k ≡ 0 → ⊥) → k ≡ firstRefusal reading → MakesFromLine p table private master salt line old before k old before
     unfolding makeLineChecks
     refuses k some e =
         kept (packageOf p private master salt line) old before k some (by-second line-sizes reading line-signing (sym tested ∙ none) k some e)
 
-    pub make-line-short : refused bad-size ≡ readLine classes line → MakesFromLine p private master salt line old before 1 old before
+    pub make-line-short : refused bad-size ≡ readLine table line → MakesFromLine p table private master salt line old before 1 old before
     make-line-short read = refuses 1 (λ z. omega arith) (rw (← read) refl)
 
-    pub make-line-broken : refused bad-line ≡ readLine classes line → MakesFromLine p private master salt line old before 5 old before
+    pub make-line-broken : refused bad-line ≡ readLine table line → MakesFromLine p table private master salt line old before 5 old before
     make-line-broken read = refuses 5 (λ z. omega arith) (rw (← read) refl)
 
-    module _ (profile : Profile) (read : done profile ≡ readLine classes line) where
+    module _ (profile : Profile) (read : done profile ≡ readLine table line) where
       pub read-room : Room p line old
       read-room =
-          let back = writes-read classes line profile (sym read) in
-          let bounds = line-lengths-hold classes profile (back .1) in
+          let back = writes-read table line profile (sym read) in
+          let bounds = line-lengths-hold table profile (back .1) in
           (room-lent p private master salt (length old) (sym tested ∙ none), omega (arith, bounds .1, ap (λ (l : List ℕ). length l) (back .0)))
 
       pub make-line-sealed : {k after : ℕ} {new : List ℕ}
-          → Seals p private master salt line old before k new after → MakesFromLine p private master salt line old before k new after
+          → Seals p private master salt line old before k new after → MakesFromLine p table private master salt line old before k new after
       unfolding makeLineChecks
       make-line-sealed sealed =
           front-as {cs = line-signing} {ds = line-sizes ++ reading ++ line-signing}

@@ -12,7 +12,7 @@ use Rattle.outcome.proofs.Checks.{passed, passed-front, both-passed}
 use Rattle.parameters.specs.declared.Params.{Params}
 use Rattle.profile.specs.declared.Profile.{Profile}
 use Rattle.outcome.specs.Result.{done}
-use Rattle.profile.specs.Rules.{Class, contains, letters, classIn, isClass, classes, valid}
+use Rattle.profile.specs.Rules.{Class, contains, letters, classIn, isClass, valid}
 use Rattle.profile.specs.Line.{lineOf, readLine}
 use Rattle.profile.proofs.RuleLaws.{holds, inside, parts}
 use Rattle.profile.proofs.Theorems.{line-lengths-hold, reads-written}
@@ -29,28 +29,28 @@ use Rattle.package.specs.Package.{packageMin, packageMax, makeSizes, mak
 -- ---- making
 
 -- answered 0, hence the profile is valid and its line is signed
-pub made-passed : (p : Params) (private master salt : List ℕ) (profile : Profile) (lent : ℕ)
-    → firstRefusal (makeChecks p private master salt profile lent) ≡ 0
-    → T (valid classes profile) × (firstRefusal (signChecks p private master salt (lineOf profile) (signatureSize p)) ≡ 0)
+pub made-passed : (p : Params) (table : List Class) (private master salt : List ℕ) (profile : Profile) (lent : ℕ)
+    → firstRefusal (makeChecks p table private master salt profile lent) ≡ 0
+    → T (valid table profile) × (firstRefusal (signChecks p private master salt (lineOf profile) (signatureSize p)) ≡ 0)
 unfolding makeChecks
-made-passed p private master salt profile lent e =
+made-passed p table private master salt profile lent e =
     let sizes : List Check = makeSizes p private master salt lent in
-    let rule : List Check = bad-line unless valid classes profile ∷ [] in
+    let rule : List Check = bad-line unless valid table profile ∷ [] in
     let all = both-passed (sizes ++ rule) (signChecks p private master salt (lineOf profile) (signatureSize p)) e in
     (passed rule (both-passed sizes rule (all .0) .1) .0, all .1)
 
 -- ---- loading
 
 -- the four lists of loading, each answered 0
-pub record LoadPassed (p : Params) (key sealed : List ℕ) (device : Device) (ps : List Profile) : Type 0 where
-  pub device-ok : deviceOk classes device ≡ true
+pub record LoadPassed (p : Params) (table : List Class) (key sealed : List ℕ) (device : Device) (ps : List Profile) : Type 0 where
+  pub device-ok : deviceOk table device ≡ true
   pub sized : firstRefusal (loadSizes p (length key) (length sealed)) ≡ 0
   pub verified : verify p key (lineIn p sealed) (signatureIn p sealed) ≡ 0
-  pub storing : firstRefusal (storeChecks p device ps (readLine classes (lineIn p sealed))) ≡ 0
+  pub storing : firstRefusal (storeChecks p device ps (readLine table (lineIn p sealed))) ≡ 0
 
-module _ (p : Params) (key sealed : List ℕ) (device : Device) (ps : List Profile) where
+module _ (p : Params) (table : List Class) (key sealed : List ℕ) (device : Device) (ps : List Profile) where
   abbrev deviceCheck : List Check
-  deviceCheck = bad-device unless deviceOk classes device ∷ []
+  deviceCheck = bad-device unless deviceOk table device ∷ []
 
   abbrev sizes : List Check
   sizes = loadSizes p (length key) (length sealed)
@@ -59,22 +59,22 @@ module _ (p : Params) (key sealed : List ℕ) (device : Device) (ps : List Profi
   verifying = verifyChecks p key (lineIn p sealed) (signatureIn p sealed)
 
   abbrev storing : List Check
-  storing = storeChecks p device ps (readLine classes (lineIn p sealed))
+  storing = storeChecks p device ps (readLine table (lineIn p sealed))
 
-  pub load-passed : firstRefusal (loadChecks p key sealed device ps) ≡ 0 → LoadPassed p key sealed device ps
+  pub load-passed : firstRefusal (loadChecks p table key sealed device ps) ≡ 0 → LoadPassed p table key sealed device ps
   unfolding loadChecks verify
   load-passed e =
       let last = both-passed (deviceCheck ++ sizes ++ verifying) storing e in
       let third = both-passed (deviceCheck ++ sizes) verifying (last .0) in
       let second = both-passed deviceCheck sizes (third .0) in
       record {
-        device-ok = holds (deviceOk classes device) (passed deviceCheck (second .0) .0);
+        device-ok = holds (deviceOk table device) (passed deviceCheck (second .0) .0);
         sized = second .1;
         verified = third .1;
         storing = last .1;
       }
 
-  pub load-accepts : LoadPassed p key sealed device ps → firstRefusal (loadChecks p key sealed device ps) ≡ 0
+  pub load-accepts : LoadPassed p table key sealed device ps → firstRefusal (loadChecks p table key sealed device ps) ≡ 0
   unfolding loadChecks verify
   load-accepts all =
       passed-front (deviceCheck ++ sizes ++ verifying) storing
@@ -84,10 +84,10 @@ module _ (p : Params) (key sealed : List ℕ) (device : Device) (ps : List Profi
       ∙ all .storing
 
 -- where a profile is read, what is left is putting it
-pub storing-put : (p : Params) (sealed : List ℕ) (device : Device) (ps : List Profile) (profile : Profile)
-    → readLine classes (lineIn p sealed) ≡ done profile
-    → firstRefusal (storeChecks p device ps (readLine classes (lineIn p sealed))) ≡ putNumber device profile ps
-storing-put p sealed device ps profile read = rw read (sym (put-number device profile ps))
+pub storing-put : (p : Params) (table : List Class) (sealed : List ℕ) (device : Device) (ps : List Profile) (profile : Profile)
+    → readLine table (lineIn p sealed) ≡ done profile
+    → firstRefusal (storeChecks p device ps (readLine table (lineIn p sealed))) ≡ putNumber device profile ps
+storing-put p table sealed device ps profile read = rw read (sym (put-number device profile ps))
 
 -- what the verifier answers 0 for has a key of its size
 pub key-sized : (p : Params) (key msg sig : List ℕ) → verify p key msg sig ≡ 0 → eqb (length key) (keySize p) ≡ true
@@ -131,16 +131,16 @@ device-of-valid table profile device ok country class =
 
 -- ---- the package of a valid profile whose signature verifies is accepted where the device is set and putting is
 
-module _ (p : Params) (key sig : List ℕ) (profile : Profile) (device : Device) (ps : List Profile) where
-  pub package-loads : T (valid classes profile) → length sig ≡ signatureSize p → verify p key (lineOf profile) sig ≡ 0
-      → deviceOk classes device ≡ true → putNumber device profile ps ≡ 0
-      → firstRefusal (loadChecks p key (sig ++ lineOf profile) device ps) ≡ 0
+module _ (p : Params) (table : List Class) (key sig : List ℕ) (profile : Profile) (device : Device) (ps : List Profile) where
+  pub package-loads : T (valid table profile) → length sig ≡ signatureSize p → verify p key (lineOf profile) sig ≡ 0
+      → deviceOk table device ≡ true → putNumber device profile ps ≡ 0
+      → firstRefusal (loadChecks p table key (sig ++ lineOf profile) device ps) ≡ 0
   package-loads ok sized verified fine put =
       let sealed : List ℕ = sig ++ lineOf profile in
       let line : lineIn p sealed ≡ lineOf profile = line-back p sig (lineOf profile) sized in
-      let bounds = line-lengths-hold classes profile ok in
+      let bounds = line-lengths-hold table profile ok in
       let long : length sealed ≡ signatureSize p + length (lineOf profile) = length-append sig (lineOf profile) ∙ ap (λ (k : ℕ). k + length (lineOf profile)) sized in
-      load-accepts p key sealed device ps
+      load-accepts p table key sealed device ps
       (record {
         device-ok = fine;
         sized = rw (
@@ -148,5 +148,5 @@ module _ (p : Params) (key sig : List ℕ) (profile : Profile) (device : Device)
           inside (packageMin p) (packageMax p) (length sealed) (omega (arith, bounds .0)) (omega (arith, bounds .1)),
         );
         verified = rw (line, signature-back p sig (lineOf profile) sized) verified;
-        storing = storing-put p sealed device ps profile (rw line (reads-written classes profile ok)) ∙ put;
+        storing = storing-put p table sealed device ps profile (rw line (reads-written table profile ok)) ∙ put;
       })

@@ -10,7 +10,7 @@ use Rattle.parameters.specs.declared.Params.{Params}
 use Rattle.parameters.specs.Sound.{Sound}
 use Rattle.profile.specs.declared.Profile.{Profile}
 use Rattle.outcome.specs.Result.{done}
-use Rattle.profile.specs.Rules.{classes}
+use Rattle.profile.specs.Rules.{Class}
 use Rattle.profile.specs.Line.{lineOf, readLine}
 use Rattle.profile.proofs.Theorems.{reads-written, writes-read}
 use Rattle.scheme.specs.Key.{publicKey}
@@ -34,31 +34,31 @@ use Rattle.package.proofs.TheoremLaws.{made-passed, LoadPassed, load-pa
 
 -- ---- what an accepted load says
 
-record Taken (p : Params) (key sealed : List ℕ) (device : Device) (old : Store) (r : PutAnswer) : Type 0 where
+record Taken (p : Params) (table : List Class) (key sealed : List ℕ) (device : Device) (old : Store) (r : PutAnswer) : Type 0 where
   profile : Profile
-  reads : readLine classes (lineIn p sealed) ≡ done profile
+  reads : readLine table (lineIn p sealed) ≡ done profile
   stores : Stores profile (stored old) (stored (r .store))
-  passes : LoadPassed p key sealed device (stored old)
+  passes : LoadPassed p table key sealed device (stored old)
   puts : putNumber device profile (stored old) ≡ 0
 
-taken : (p : Params) (key sealed : List ℕ) (device : Device) (old : Store) (r : PutAnswer) → Loads p key sealed device old r
-    → r .answer ≡ 0 → Taken p key sealed device old r
-taken p key sealed device old r loads e =
+taken : (p : Params) (table : List Class) (key sealed : List ℕ) (device : Device) (old : Store) (r : PutAnswer) → Loads p table key sealed device old r
+    → r .answer ≡ 0 → Taken p table key sealed device old r
+taken p table key sealed device old r loads e =
     let found = loads .taken e in
-    let passes = load-passed p key sealed device (stored old) (sym (loads .answer) ∙ e) in
+    let passes = load-passed p table key sealed device (stored old) (sym (loads .answer) ∙ e) in
     record {
       profile = found .0;
       reads = found .1;
       stores = found .2;
       passes = passes;
-      puts = sym (storing-put p sealed device (stored old) (found .0) (found .1)) ∙ passes .storing;
+      puts = sym (storing-put p table sealed device (stored old) (found .0) (found .1)) ∙ passes .storing;
     }
 
-pub nothing-else : (p : Params) → NothingElse p
+pub nothing-else : (p : Params) (table : List Class) → NothingElse p table
 unfolding signatureIn lineIn
-nothing-else p key sealed device old r loads e =
-    let t = taken p key sealed device old r loads e in
-    let written = writes-read classes (lineIn p sealed) (t .profile) (t .reads) in
+nothing-else p table key sealed device old r loads e =
+    let t = taken p table key sealed device old r loads e in
+    let written = writes-read table (lineIn p sealed) (t .profile) (t .reads) in
     let same = same-eq (keyOf (t .profile)) (deviceKey device) (put-passed device (t .profile) (stored old) (t .puts) .0) in (
       t .profile,
       t .stores,
@@ -69,10 +69,10 @@ nothing-else p key sealed device old r loads e =
       rw (written .0) (t .passes .verified),
     )
 
-pub load-reaches : (p : Params) → LoadReaches p
-load-reaches p calls key sealed device old r run loads = (
+pub load-reaches : (p : Params) (table : List Class) → LoadReaches p table
+load-reaches p table calls key sealed device old r run loads = (
   λ e.
-      let t = taken p key sealed device old r loads e in
+      let t = taken p table key sealed device old r loads e in
       (t .profile, reached-put calls device (t .profile) old r run (takes e (t .puts) (t .stores))),
   λ ne. subst (λ (s : Store). Reached calls (stored s)) (sym (loads .kept ne)) run,
 )
@@ -80,33 +80,33 @@ load-reaches p calls key sealed device old r run loads = (
 -- ---- a made package
 
 -- what was written, up to its length, is the package
-made-whole : (p : Params) (private master salt : List ℕ) (profile : Profile) (old sealed : List ℕ) (before size : ℕ)
-    → MakesPackage p private master salt profile old before 0 sealed size
+made-whole : (p : Params) (table : List Class) (private master salt : List ℕ) (profile : Profile) (old sealed : List ℕ) (before size : ℕ)
+    → MakesPackage p table private master salt profile old before 0 sealed size
     → take size sealed ≡ packageOf p private master salt (lineOf profile)
-made-whole p private master salt profile old sealed before size made =
+made-whole p table private master salt profile old sealed before size made =
     let made-bytes : List ℕ = packageOf p private master salt (lineOf profile) in
     rw (made .answers .content) (take-at made-bytes (drop (length made-bytes) old) size (sym (made .size)))
 
-pub made-loads : (p : Params) → Sound p → MadeLoads p
+pub made-loads : (p : Params) (table : List Class) → Sound p → MadeLoads p table
 unfolding packageOf
-made-loads p sound private master salt profile old sealed before size device store r made country class newer room loads =
+made-loads p table sound private master salt profile old sealed before size device store r made country class newer room loads =
     let sig : List ℕ = signature p private master salt (lineOf profile) in
-    let ok = made-passed p private master salt profile (length old) (sym (made .answers .answer)) in
+    let ok = made-passed p table private master salt profile (length old) (sym (made .answers .answer)) in
     let sized = length-signature p sound private master salt (lineOf profile) (signatureSize p) (ok .1) in
-    let whole : take size sealed ≡ sig ++ lineOf profile = made-whole p private master salt profile old sealed before size made in
+    let whole : take size sealed ≡ sig ++ lineOf profile = made-whole p table private master salt profile old sealed before size made in
     let same : keyOf profile ≡ deviceKey device = λ i. record { country = sym country i; class = sym class i } in
     let its : sameKey (keyOf profile) (deviceKey device) ≡ true = rw same (same-refl (deviceKey device)) in
-    let fine : deviceOk classes device ≡ true = device-of-valid classes profile device (ok .0) country class in
-    let passes : firstRefusal (loadChecks p (publicKey p private) (take size sealed) device (stored store)) ≡ 0 =
+    let fine : deviceOk table device ≡ true = device-of-valid table profile device (ok .0) country class in
+    let passes : firstRefusal (loadChecks p table (publicKey p private) (take size sealed) device (stored store)) ≡ 0 =
     rw whole
-    (package-loads p (publicKey p private) sig profile device (stored store) (ok .0) sized
+    (package-loads p table (publicKey p private) sig profile device (stored store) (ok .0) sized
     (accepted p sound private master salt (lineOf profile) (signatureSize p) (ok .1))
     fine
     (put-accepts device profile (stored store) its newer room)) in
     let zero : r .answer ≡ 0 = loads .answer ∙ passes in
     let found = loads .taken zero in
-    let read : readLine classes (lineIn p (take size sealed)) ≡ done profile =
-    rw (whole, line-back p sig (lineOf profile) sized) (reads-written classes profile (ok .0)) in
+    let read : readLine table (lineIn p (take size sealed)) ≡ done profile =
+    rw (whole, line-back p sig (lineOf profile) sized) (reads-written table profile (ok .0)) in
     let this : found .0 ≡ profile = cc in
     let stores : Stores profile (stored store) (stored (r .store)) = rw this at (found .2) in
-    (zero, lookup-stored classes device profile (stored store) (stored (r .store)) stores fine its)
+    (zero, lookup-stored table device profile (stored store) (stored (r .store)) stores fine its)

@@ -10,7 +10,7 @@ use Rattle.parameters.specs.declared.Params.{Params}
 use Rattle.parameters.specs.Sound.{Sound}
 use Rattle.profile.specs.declared.Profile.{Profile}
 use Rattle.outcome.specs.Result.{done}
-use Rattle.profile.specs.Rules.{classes}
+use Rattle.profile.specs.Rules.{Class}
 use Rattle.profile.specs.Line.{longest, lineOf, readLine}
 use Rattle.scheme.specs.Key.{matrixCount}
 use Rattle.scheme.specs.Sign.{signatureSize, signChecks}
@@ -46,34 +46,34 @@ module _ (p : Params) where
   Seals private master salt line old =
       AnswersFront (signChecks p private master salt line (signatureSize p)) (packageOf p private master salt line) old
 
-  abbrev pub MakesPackage : List ℕ → List ℕ → List ℕ → Profile → List ℕ → ℕ → ℕ → List ℕ → ℕ → Type 0
-  MakesPackage private master salt profile old =
-      AnswersFront (makeChecks p private master salt profile (length old)) (packageOf p private master salt (lineOf profile)) old
+  abbrev pub MakesPackage : List Class → List ℕ → List ℕ → List ℕ → Profile → List ℕ → ℕ → ℕ → List ℕ → ℕ → Type 0
+  MakesPackage table private master salt profile old =
+      AnswersFront (makeChecks p table private master salt profile (length old)) (packageOf p private master salt (lineOf profile)) old
 
-  abbrev pub MakesFromLine : List ℕ → List ℕ → List ℕ → List ℕ → List ℕ → ℕ → ℕ → List ℕ → ℕ → Type 0
-  MakesFromLine private master salt line old =
-      AnswersFront (makeLineChecks p private master salt line (length old)) (packageOf p private master salt line) old
+  abbrev pub MakesFromLine : List Class → List ℕ → List ℕ → List ℕ → List ℕ → List ℕ → ℕ → ℕ → List ℕ → ℕ → Type 0
+  MakesFromLine table private master salt line old =
+      AnswersFront (makeLineChecks p table private master salt line (length old)) (packageOf p private master salt line) old
 
   -- ---- loading
 
   -- With the answer 0 the profile of the package's line is stored; which slot it takes is the program's choice, and `Stores` says what
   -- every choice has in common. After a refusal the store is the old one in all its parts.
-  pub record Loads (key sealed : List ℕ) (device : Device) (old : Store) (r : PutAnswer) : Type 0 where
-    pub answer : r .answer ≡ firstRefusal (loadChecks p key sealed device (stored old))
-    pub taken : r .answer ≡ 0 → (profile : Profile) × (readLine classes (lineIn p sealed) ≡ done profile) × Stores profile (stored old) (stored (r .store))
+  pub record Loads (table : List Class) (key sealed : List ℕ) (device : Device) (old : Store) (r : PutAnswer) : Type 0 where
+    pub answer : r .answer ≡ firstRefusal (loadChecks p table key sealed device (stored old))
+    pub taken : r .answer ≡ 0 → (profile : Profile) × (readLine table (lineIn p sealed) ≡ done profile) × Stores profile (stored old) (stored (r .store))
     pub kept : (r .answer ≡ 0 → ⊥) → r .store ≡ old
 
   -- over an image: a country of another length than two is no setting; then the image's size
-  abbrev pub loadImageChecks : List ℕ → List ℕ → List ℕ → ℕ → List ℕ → List Check
-  loadImageChecks key sealed country class image =
+  abbrev pub loadImageChecks : List Class → List ℕ → List ℕ → List ℕ → ℕ → List ℕ → List Check
+  loadImageChecks table key sealed country class image =
       (bad-device unless eqb (length country) 2
-      ∷ bad-device unless deviceOk classes (deviceOf country class)
+      ∷ bad-device unless deviceOk table (deviceOf country class)
       ∷ bad-size unless eqb (length image) storeSize
       ∷ [])
-      ++ loadChecks p key sealed (deviceOf country class) (stored (storeOf image))
+      ++ loadChecks p table key sealed (deviceOf country class) (stored (storeOf image))
 
   -- With the answer 0 the image is that of a store that `load` may return, and means it; after a refusal the image is as it was.
-  pub record LoadsImage (key sealed country : List ℕ) (class : ℕ) (old : List ℕ) (answer : ℕ) (new : List ℕ) : Type 0 where
-    pub answers : answer ≡ firstRefusal (loadImageChecks key sealed country class old)
-    pub taken : answer ≡ 0 → (s : Store) × Loads key sealed (deviceOf country class) (storeOf old) (record { answer = 0; store = s }) × StoreWritten s new
+  pub record LoadsImage (table : List Class) (key sealed country : List ℕ) (class : ℕ) (old : List ℕ) (answer : ℕ) (new : List ℕ) : Type 0 where
+    pub answers : answer ≡ firstRefusal (loadImageChecks table key sealed country class old)
+    pub taken : answer ≡ 0 → (s : Store) × Loads table key sealed (deviceOf country class) (storeOf old) (record { answer = 0; store = s }) × StoreWritten s new
     pub kept : (answer ≡ 0 → ⊥) → new ≡ old

@@ -10,7 +10,7 @@ use Rattle.outcome.specs.Answer.{bad-size, bad-line, bad-device, Check, _unless
 use Rattle.parameters.specs.declared.Params.{Params}
 use Rattle.profile.specs.declared.Profile.{Profile}
 use Rattle.outcome.specs.Result.{Result, done, refused, refusalIn}
-use Rattle.profile.specs.Rules.{_to_, contains, classes, valid}
+use Rattle.profile.specs.Rules.{_to_, contains, Class, valid}
 use Rattle.profile.specs.Line.{shortest, longest, lineOf, readLine}
 use Rattle.scheme.specs.Key.{keySize}
 use Rattle.scheme.specs.Sign.{signatureSize, signChecks, signature}
@@ -43,17 +43,17 @@ module _ (p : Params) where
       ∷ []
 
   -- sizes; the profile's rules; then signing its line
-  unfoldable pub makeChecks : List ℕ → List ℕ → List ℕ → Profile → ℕ → List Check
-  makeChecks private master salt profile lent =
+  unfoldable pub makeChecks : List Class → List ℕ → List ℕ → List ℕ → Profile → ℕ → List Check
+  makeChecks table private master salt profile lent =
       makeSizes private master salt lent
-      ++ (bad-line unless valid classes profile ∷ [])
+      ++ (bad-line unless valid table profile ∷ [])
       ++ signChecks p private master salt (lineOf profile) (signatureSize p)
 
   -- from a line's bytes: sizes; the line's size and rules, as `readLine` has them; then signing it
-  unfoldable pub makeLineChecks : List ℕ → List ℕ → List ℕ → List ℕ → ℕ → List Check
-  makeLineChecks private master salt line lent =
+  unfoldable pub makeLineChecks : List Class → List ℕ → List ℕ → List ℕ → List ℕ → ℕ → List Check
+  makeLineChecks table private master salt line lent =
       makeSizes private master salt lent
-      ++ refusalIn (readLine classes line)
+      ++ refusalIn (readLine table line)
       ++ signChecks p private master salt line (signatureSize p)
 
   -- ---- loading
@@ -76,9 +76,9 @@ module _ (p : Params) where
   storeChecks device ps (refused r) = r unless false ∷ []
 
   -- The device; sizes; the signature over the line; the line; then storing among the profiles ps.
-  unfoldable pub loadChecks : List ℕ → List ℕ → Device → List Profile → List Check
-  loadChecks key sealed device ps =
-      (bad-device unless deviceOk classes device ∷ [])
+  unfoldable pub loadChecks : List Class → List ℕ → List ℕ → Device → List Profile → List Check
+  loadChecks table key sealed device ps =
+      (bad-device unless deviceOk table device ∷ [])
       ++ loadSizes (length key) (length sealed)
       ++ verifyChecks p key (lineIn sealed) (signatureIn sealed)
-      ++ storeChecks device ps (readLine classes (lineIn sealed))
+      ++ storeChecks device ps (readLine table (lineIn sealed))

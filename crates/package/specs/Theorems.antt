@@ -1,5 +1,5 @@
--- What packages and the loader owe to one another, of every program that meets their contracts. The proofs stand in
--- proofs/Theorems.antt.
+-- What packages and the loader owe to one another, of every program that meets their contracts, under any class table. The proofs
+-- stand in proofs/Theorems.antt.
 -- Assumes nothing.
 use mathlib.Core.Path.{_≡_}
 use mathlib.Core.Bool.{true, _||_}
@@ -10,7 +10,7 @@ use lib.ListN.{length, take}
 use Rattle.parameters.specs.declared.Params.{Params}
 use Rattle.profile.specs.declared.Profile.{Profile}
 use Rattle.outcome.specs.Result.{done}
-use Rattle.profile.specs.Rules.{classes, valid}
+use Rattle.profile.specs.Rules.{Class, valid}
 use Rattle.profile.specs.Line.{lineOf}
 use Rattle.scheme.specs.Key.{publicKey}
 use Rattle.scheme.specs.Verify.{verify}
@@ -24,7 +24,7 @@ use Rattle.store.specs.Reached.{Call, Reached}
 use Rattle.package.specs.Package.{signatureIn}
 use Rattle.package.specs.Entries.{MakesPackage, Loads}
 
-module _ (p : Params) where
+module _ (p : Params) (table : List Class) where
   -- A made package loads: where package making answered 0 for a profile, loading what it wrote under the key that the rules give for
   -- the private seed, on a device of the profile's country and class, answers 0 in every store, reached or not, that holds no
   -- profile of the pair or one with a smaller serial, and holds the pair or has room; and looking up the pair then gives the profile.
@@ -32,20 +32,20 @@ module _ (p : Params) where
   MadeLoads =
       (private master salt : List ℕ) (profile : Profile) (old sealed : List ℕ) (before size : ℕ)
       (device : Device) (store : Store) (r : PutAnswer)
-      → MakesPackage p private master salt profile old before 0 sealed size
+      → MakesPackage p table private master salt profile old before 0 sealed size
       → device .country ≡ profile .country → device .class ≡ profile .class
       → newer profile (find (keyOf profile) (stored store)) ≡ true
       → (isStored (keyOf profile) (stored store) || ltb (length (stored store)) capacity) ≡ true
-      → Loads p (publicKey p private) (take size sealed) device store r
-      → (r .answer ≡ 0) × (lookupIn classes device (stored (r .store)) ≡ done profile)
+      → Loads p table (publicKey p private) (take size sealed) device store r
+      → (r .answer ≡ 0) × (lookupIn table device (stored (r .store)) ≡ done profile)
 
   -- Nothing else gets in: where loading answers 0, what is stored is a valid profile of this device's own country and class, and the
   -- verifier answers 0 for the package's signature over exactly the line of what is stored.
   abbrev pub NothingElse : Type 0
   NothingElse =
       (key sealed : List ℕ) (device : Device) (old : Store) (r : PutAnswer)
-      → Loads p key sealed device old r → r .answer ≡ 0
-      → (profile : Profile) × Stores profile (stored old) (stored (r .store)) × T (valid classes profile)
+      → Loads p table key sealed device old r → r .answer ≡ 0
+      → (profile : Profile) × Stores profile (stored old) (stored (r .store)) × T (valid table profile)
       × (profile .country ≡ device .country) × (profile .class ≡ device .class)
       × (sealed ≡ signatureIn p sealed ++ lineOf profile)
       × (verify p key (lineOf profile) (signatureIn p sealed) ≡ 0)
@@ -55,6 +55,6 @@ module _ (p : Params) where
   abbrev pub LoadReaches : Type 0
   LoadReaches =
       (calls : List Call) (key sealed : List ℕ) (device : Device) (old : Store) (r : PutAnswer)
-      → Reached calls (stored old) → Loads p key sealed device old r
+      → Reached calls (stored old) → Loads p table key sealed device old r
       → (r .answer ≡ 0 → (profile : Profile) × Reached (calls ++ (record { device = device; profile = profile } ∷ [])) (stored (r .store)))
       × ((r .answer ≡ 0 → ⊥) → Reached calls (stored (r .store)))

@@ -12,6 +12,7 @@ use store::Store;
 use store::device_ok;
 use store::put;
 ghost use mathlib.Core.Path.{_≡_};
+ghost use Rattle.profile.specs.Rules.{classes};
 ghost use Rattle.package.specs.Entries.{Scratch, Loads, LoadsImage};
 
 // An answer that leaves the store as it was.
@@ -35,7 +36,7 @@ pub fn load(
     vs: &mut [u8],
 ) -> PutAnswer
     requires { ⌜ Scratch p (now block) (now vs) ⌝ }
-    ensures { λ r. ⌜ Loads p (now (key .entry)) (now (sealed .entry)) device store r ⌝ }
+    ensures { λ r. ⌜ Loads p classes (now (key .entry)) (now (sealed .entry)) device store r ⌝ }
 {
     if !device_ok(device) {
         return refuse(10, store);
@@ -68,7 +69,7 @@ pub fn load_image(
     vs: &mut [u8],
 ) -> u8
     requires { ⌜ Scratch p (now block) (now vs) ⌝ }
-    ensures { λ r. ⌜ LoadsImage p (now (key .entry)) (now (sealed .entry)) (now (country .entry)) class (now (store .entry)) r (now (store .exit)) ⌝ }
+    ensures { λ r. ⌜ LoadsImage p classes (now (key .entry)) (now (sealed .entry)) (now (country .entry)) class (now (store .entry)) r (now (store .exit)) ⌝ }
 {
     if country.len() != 2 {
         return 10;

@@ -11,6 +11,7 @@ use Rattle.outcome.specs.Answer.{pick, bad-size}
 use Rattle.decimal.specs.Decimal.{Room, Appended}
 use Rattle.decimal.proofs.Stores.{front-length, front}
 use Rattle.profile.specs.declared.Profile.{Profile}
+use Rattle.profile.specs.Rules.{Class}
 use Rattle.outcome.specs.Result.{done, refused}
 use Rattle.store.specs.Stored.{insert}
 use Rattle.store.specs.Reached.{Call, answerTo, Step, Run, Reached, model}
@@ -48,55 +49,55 @@ model-run (c ∷ cs) ps =
     } in
     (next, step, model-run cs next)
 
-pub shown-once : ShownOnce
-shown-once input =
-    let calls = callsIn (cut input) in
-    let holds = reached-hold calls (shown input) (model-run calls []) in
+pub shown-once : (table : List Class) → ShownOnce table
+shown-once table input =
+    let calls = callsIn table (cut input) in
+    let holds = reached-hold calls (shown table input) (model-run calls []) in
     (holds .distinct, holds .fits)
 
 -- ---- the text
 
-module _ (input : List ℕ) where
-  pub shows-too-long : longestInput < length input → Shows input tooLong
+module _ (table : List Class) (input : List ℕ) where
+  pub shows-too-long : longestInput < length input → Shows table input tooLong
   shows-too-long long = record { listed = λ h. absurd (omega arith); too-long = λ h. refl }
 
-  pub shows-listed : length input ≤ longestInput → (ps : List Profile) → Reached (callsIn (cut input)) ps
-      → Shows input (header ++ rows ps)
+  pub shows-listed : length input ≤ longestInput → (ps : List Profile) → Reached (callsIn table (cut input)) ps
+      → Shows table input (header ++ rows ps)
   shows-listed size ps run =
       record {
-        listed = λ h. record { order = ps; each-once = (reached-hold (callsIn (cut input)) ps run) .listed; all = refl };
+        listed = λ h. record { order = ps; each-once = (reached-hold (callsIn table (cut input)) ps run) .listed; all = refl };
         too-long = λ h. absurd (omega arith);
       }
 
   -- every input is shown by some text
-  some-text : (text : List ℕ) × Shows input text
+  some-text : (text : List ℕ) × Shows table input text
   some-text = go (ltb longestInput (length input)) refl
     where
-      go : (long : Bool) → ltb longestInput (length input) ≡ long → (text : List ℕ) × Shows input text
+      go : (long : Bool) → ltb longestInput (length input) ≡ long → (text : List ℕ) × Shows table input text
       go true e = (tooLong, shows-too-long (ltb-true longestInput (length input) e))
       go false e = (
-        header ++ rows (shown input),
-        shows-listed (ltb-false longestInput (length input) e) (shown input) (model-run (callsIn (cut input)) []),
+        header ++ rows (shown table input),
+        shows-listed (ltb-false longestInput (length input) e) (shown table input) (model-run (callsIn table (cut input)) []),
       )
 
 -- ---- the answer
 
-module _ (input old : List ℕ) where
-  pub previews-refused : (length old ≡ lentSize → ⊥) → Previews input old BadSize old
+module _ (table : List Class) (input old : List ℕ) where
+  pub previews-refused : (length old ≡ lentSize → ⊥) → Previews table input old BadSize old
   previews-refused size =
       let other = ne-eqb (length old) lentSize size in
-      record { text = some-text input .0; shows = some-text input .1; answered = rw other; content = refl }
+      record { text = some-text table input .0; shows = some-text table input .1; answered = rw other; content = refl }
 
-  pub previews-done : {n : ℕ} {text new : List ℕ} → length old ≡ lentSize → Shows input text → Appended old 0 text new n
-      → n ≤ lentSize → Previews input old (Length n) new
+  pub previews-done : {n : ℕ} {text new : List ℕ} → length old ≡ lentSize → Shows table input text → Appended old 0 text new n
+      → n ≤ lentSize → Previews table input old (Length n) new
   previews-done {n} {text} {new} size shows put most =
       let right = eq-eqb (length old) lentSize size in
       let room : Room old 0 text = record { room = omega (arith, put .place) } in
       record { text = text; shows = shows; answered = rw right (ap done (front-length put room)); content = front put room }
 
 -- the length that is answered lies within the lent bytes
-pub length-within : {input old lent : List ℕ} {r : Previewed} {n : ℕ} → Previews input old r lent → r ≡ Length n → n ≤ length lent
-length-within {input} {old} {lent} {r} {n} previews answer =
+pub length-within : {table : List Class} {input old lent : List ℕ} {r : Previewed} {n : ℕ} → Previews table input old r lent → r ≡ Length n → n ≤ length lent
+length-within {table} {input} {old} {lent} {r} {n} previews answer =
     go (eqb (length old) lentSize) (sym (ap previewAnswer answer) ∙ previews .answered)
   where
     whole : lent ≡ previews .text ++ drop (length (previews .text)) old

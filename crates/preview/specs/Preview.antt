@@ -9,7 +9,7 @@ use Rattle.outcome.specs.Answer.{bad-size, Check, _unless_, pick}
 use Rattle.decimal.specs.Decimal.{decimal}
 use Rattle.profile.specs.declared.Profile.{Profile}
 use Rattle.outcome.specs.Result.{Result, done, refused, answer, numberIn}
-use Rattle.profile.specs.Rules.{classes}
+use Rattle.profile.specs.Rules.{Class}
 use Rattle.profile.specs.Line.{comma, lineFeed, readLine}
 use Rattle.store.specs.declared.Device.{Device}
 use Rattle.store.specs.Stored.{capacity, Distinct}
@@ -52,18 +52,18 @@ abbrev pub callsOf : Result Profile → List Call
 callsOf (done p) = record { device = ownDevice p; profile = p } ∷ []
 callsOf (refused r) = []
 
-unfoldable pub callsIn : List (List ℕ) → List Call
-callsIn [] = []
-callsIn (line ∷ lines) = callsOf (readLine classes line) ++ callsIn lines
+unfoldable pub callsIn : List Class → List (List ℕ) → List Call
+callsIn table [] = []
+callsIn table (line ∷ lines) = callsOf (readLine table line) ++ callsIn table lines
 
 -- the profiles that the lines of the input, stored in their order, leave in a store that was empty: `model` of crate store
 -- goes from line to line and takes in what `put` answers with 0
-abbrev pub shown : List ℕ → List Profile
-shown input = model [] (callsIn (cut input))
+abbrev pub shown : List Class → List ℕ → List Profile
+shown table input = model [] (callsIn table (cut input))
 
 -- no key twice, and no more profiles than a store holds (the proof stands in proofs/EntryLaws.antt)
-abbrev pub ShownOnce : Type 0
-ShownOnce = (input : List ℕ) → Distinct (shown input) × (length (shown input) ≤ capacity)
+abbrev pub ShownOnce : List Class → Type 0
+ShownOnce table = (input : List ℕ) → Distinct (shown table input) × (length (shown table input) ≤ capacity)
 
 -- ---- the listing
 
@@ -102,8 +102,8 @@ pub record Lists (ps : List Profile) (text : List ℕ) : Type 0 where
   pub all : text ≡ header ++ rows order
 
 -- the text that shows an input
-pub record Shows (input text : List ℕ) : Type 0 where
-  pub listed : length input ≤ longestInput → Lists (shown input) text
+pub record Shows (table : List Class) (input text : List ℕ) : Type 0 where
+  pub listed : length input ≤ longestInput → Lists (shown table input) text
   pub too-long : longestInput < length input → text ≡ tooLong
 
 -- ---- the answer
@@ -122,8 +122,8 @@ previewAnswer BadSize = refused bad-size
 
 -- The answer is the length of a text that shows the input. The text stands at the front of the lent bytes, and past it what they
 -- held; after a refusal all is as it was.
-pub record Previews (input old : List ℕ) (r : Previewed) (lent : List ℕ) : Type 0 where
+pub record Previews (table : List Class) (input old : List ℕ) (r : Previewed) (lent : List ℕ) : Type 0 where
   pub text : List ℕ
-  pub shows : Shows input text
+  pub shows : Shows table input text
   pub answered : previewAnswer r ≡ answer (previewChecks old) (length text)
   pub content : lent ≡ pick (eqb (numberIn (previewAnswer r)) 0) (text ++ drop (length text) old) old

@@ -70,7 +70,7 @@ fn hold_line(store: Store, line: &[u8]) -> Store
 
 // The store after all lines of the input.
 fn hold_lines(input: &[u8]) -> Store
-    ensures { λ r. ⌜ Reached (callsIn (cut (now (input .entry)))) (stored r) ⌝ }
+    ensures { λ r. ⌜ Reached (callsIn classes (cut (now (input .entry)))) (stored r) ⌝ }
 {
     let mut store = empty();
     let mut at = 0;
@@ -139,7 +139,7 @@ fn put_rows(store: Store, out: &mut [u8], at: usize) -> usize
 
 // Writes the listing at the front of 277 lent bytes.
 pub fn preview(input: &[u8], out: &mut [u8]) -> Previewed
-    ensures { λ r. ⌜ Previews (now (input .entry)) (now (out .entry)) r (now (out .exit)) ⌝ }
+    ensures { λ r. ⌜ Previews classes (now (input .entry)) (now (out .entry)) r (now (out .exit)) ⌝ }
 {
     if out.len() != 277 {
         return Previewed::BadSize;

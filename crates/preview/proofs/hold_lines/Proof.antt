@@ -2,6 +2,7 @@
 use Prim.Native.Nat.{_-_}
 use native.Mathlib.Omega.{arith}
 use lib.ListN.{length}
+use Rattle.profile.specs.Rules.{classes}
 use Rattle.store.specs.Stored.{stored}
 use Rattle.preview.specs.Preview.{LineAt}
 use Rattle.preview.proofs.CutLaws.{Left, left-all, left-fewer, left-none}
@@ -10,7 +11,7 @@ use Rattle.preview.proofs.hold_lines.Statement.{statement}
 use Rattle.preview.proofs.hold_lines.Tie as tie
 
 abbrev Inv-loop : tie.InvT-loop
-Inv-loop input store₀ at₀ end₀ store at end = LineAt input at end × Left input at (stored store)
+Inv-loop input store₀ at₀ end₀ store at end = LineAt input at end × Left classes input at (stored store)
 
 abbrev μ-loop : tie.MeasureT-loop
 μ-loop input store₀ at₀ end₀ store at end = length input - at
@@ -25,7 +26,7 @@ loop-holds : tie.Need-loop-holds Inv-loop μ-loop
 loop-holds c =
     let input = c .before .before .before .args .input .now in
     let empty = c .before .empty in
-    (c .line-end .ensures, left-all input (stored (empty .result)) (empty .ensures))
+    (c .line-end .ensures, left-all classes input (stored (empty .result)) (empty .ensures))
 
 sub-hold-line : tie.Need-sub-hold-line Inv-loop μ-loop
 sub-hold-line c = search needs
@@ -52,7 +53,7 @@ loop-again c =
     let turn = c .before .before .before .before in
     let input = turn .before .before .before .before .args .input .now in (
       c .line-end2 .ensures,
-      left-fewer input (turn .loop .at) (turn .loop .end) (turn .loop .inv .0) (stored (turn .loop .store)) (turn .loop .inv .1)
+      left-fewer classes input (turn .loop .at) (turn .loop .end) (turn .loop .inv .0) (stored (turn .loop .store)) (turn .loop .inv .1)
           (c .before .before .before .loop-test .taken) (stored (c .before .hold-line .result)) (c .before .hold-line .ensures),
     )
 
@@ -60,7 +61,7 @@ returns : tie.Need-returns Inv-loop μ-loop
 returns c =
     let turn = c .before in
     let input = turn .before .before .before .before .args .input .now in
-    left-none input (turn .loop .at) (turn .loop .end) (turn .loop .inv .0) (stored (turn .loop .store)) (turn .loop .inv .1)
+    left-none classes input (turn .loop .at) (turn .loop .end) (turn .loop .inv .0) (stored (turn .loop .store)) (turn .loop .inv .1)
     (c .loop-test .left)
 
 pub hold-lines-spec : {M : Type 1} → statement M

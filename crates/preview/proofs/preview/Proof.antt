@@ -1,6 +1,7 @@
 -- `preview::preview` meets its contract: a refusal, `too long`, or the header and then the rows. Assumes nothing.
 use native.Mathlib.Omega.{arith}
 use Rattle.decimal.proofs.Stores.{then}
+use Rattle.profile.specs.Rules.{classes}
 use Rattle.store.specs.Stored.{stored}
 use Rattle.preview.proofs.EntryLaws.{shows-too-long, shows-listed, previews-refused, previews-done}
 use borrow.Author.Needs.{needs}
@@ -10,7 +11,7 @@ use Rattle.preview.proofs.preview.Tie as tie
 returns : tie.Need-returns
 returns c =
     let args = c .before .before .before .args in
-    previews-refused (args .input .now) (args .out .now) (c .if1 .taken)
+    previews-refused classes (args .input .now) (args .out .now) (c .if1 .taken)
 
 slice-aggregate-put-text : tie.Need-slice-aggregate-put-text
 slice-aggregate-put-text c = search needs
@@ -27,7 +28,7 @@ returns-2 c =
     let args = sized .before .before .before .args in
     let text = c .before .before .put-text in
     let long = c .before .before .before .before .before .if2 .taken in
-    previews-done (args .input .now) (args .out .now) (sized .if1 .left) (shows-too-long (args .input .now) long) (text .ensures)
+    previews-done classes (args .input .now) (args .out .now) (sized .if1 .left) (shows-too-long classes (args .input .now) long) (text .ensures)
     (omega (arith, text .ensures .place))
 
 hold-lines-requires : tie.Need-hold-lines-requires
@@ -52,8 +53,8 @@ returns-3 c =
     let sized = held .before .before in
     let args = sized .before .before .before .args in
     let rows = c .before .before .put-rows in
-    let shows = shows-listed (args .input .now) (held .before .if2 .left) (stored (held .hold-lines .result)) (held .hold-lines .ensures) in
-    previews-done (args .input .now) (args .out .now) (sized .if1 .left) shows (then (headed .put-text2 .ensures) (rows .ensures .0))
+    let shows = shows-listed classes (args .input .now) (held .before .if2 .left) (stored (held .hold-lines .result)) (held .hold-lines .ensures) in
+    previews-done classes (args .input .now) (args .out .now) (sized .if1 .left) shows (then (headed .put-text2 .ensures) (rows .ensures .0))
     (omega (arith, rows .ensures .1, headed .put-text2 .ensures .place))
 
 pub preview-spec : {M : Type 1} → statement M

@@ -75,7 +75,7 @@ read : (c : tie.After-read-line) → readAnswer (c .read-line .result) ≡ readL
 read c =
     let a = entry-read-line c .args in
     let signed = at-size (c .before .before) .signature-size in
-    read-part (a .p) (a .sealed .now) (signed .result) (signed .ensures) (c .read-line .ensures)
+    read-part (a .p) (a .sealed .now) (signed .result) (signed .ensures) classes (c .read-line .ensures)
 
 -- ---- needs
 
@@ -88,7 +88,7 @@ refuse-requires c κs = search needs
 returns : tie.Need-returns
 returns c =
     let a = c .before .before .before .before .before .before .before .args in
-    load-device (a .p) (a .key .now) (a .sealed .now) (a .device) (a .store)
+    load-device (a .p) classes (a .key .now) (a .sealed .now) (a .device) (a .store)
     (sym (c .before .before .device-ok .ensures) ∙ not-true _ (c .before .if1 .taken)) (c .refuse .ensures)
 
 check-load-requires : tie.Need-check-load-requires
@@ -100,7 +100,7 @@ refuse-requires-2 c κs = search needs
 returns-2 : tie.Need-returns-2
 returns-2 c =
     let a = entry-else1 (c .before .before .before) .args in
-    load-sizes (a .p) (a .key .now) (a .sealed .now) (a .device) (a .store)
+    load-sizes (a .p) classes (a .key .now) (a .sealed .now) (a .device) (a .store)
     (set (c .before .before .before)) _ (c .before .before .check-load .ensures) (c .before .if2 .taken) (c .refuse2 .ensures)
 
 signature-size-requires : tie.Need-signature-size-requires
@@ -134,7 +134,7 @@ returns-3 : tie.Need-returns-3
 returns-3 c =
     let asked = c .before .before .before .before .before .before in
     let a = entry-verify asked .args in
-    load-verify (a .p) (a .key .now) (a .sealed .now) (a .device) (a .store)
+    load-verify (a .p) classes (a .key .now) (a .sealed .now) (a .device) (a .store)
     (set (asked .before .before .before .before .before .before .before .before)) (sized (asked .before .before .before .before .before .before)) _ (answered asked) (c .before .if3 .taken) (c .refuse3 .ensures)
 
 sub-read-line : tie.Need-sub-read-line
@@ -178,7 +178,7 @@ returns-4 c =
     let told = c .before .before .before .before in
     let passed = told .before .before in
     let a = entry-read-line told .args in
-    load-put (a .p) (a .key .now) (a .sealed .now) (a .device) (a .store)
+    load-put (a .p) classes (a .key .now) (a .sealed .now) (a .device) (a .store)
     (set (at-else1 passed)) (sized (at-else2 passed)) (verified passed) _
     (sym (ap readAnswer (c .before .before .profile .given .1)) ∙ read told) (c .put .ensures)
 
@@ -193,7 +193,7 @@ returns-5 c =
     let told = c .before .before .before in
     let passed = told .before .before in
     let a = entry-read-line told .args in
-    load-line (a .p) (a .key .now) (a .sealed .now) (a .device) (a .store)
+    load-line (a .p) classes (a .key .now) (a .sealed .now) (a .device) (a .store)
     (set (at-else1 passed)) (sized (at-else2 passed)) (verified passed) bad-size
     (sym (ap readAnswer (c .before .enum-told .given .1)) ∙ read told) (c .refuse4 .ensures)
 
@@ -208,7 +208,7 @@ returns-6 c =
     let told = c .before .before .before in
     let passed = told .before .before in
     let a = entry-read-line told .args in
-    load-line (a .p) (a .key .now) (a .sealed .now) (a .device) (a .store)
+    load-line (a .p) classes (a .key .now) (a .sealed .now) (a .device) (a .store)
     (set (at-else1 passed)) (sized (at-else2 passed)) (verified passed) bad-line
     (sym (ap readAnswer (c .before .enum-told2 .given .1)) ∙ read told) (c .refuse5 .ensures)
 

@@ -27,18 +27,18 @@ set : (c : tie.Else2) → deviceOk classes (deviceOf (entry-ok (c .before) .args
 set c = sym (answered (c .before)) ∙ not-false _ (c .if2 .left)
 
 -- the loader was asked of what device and image mean
-loaded : (c : tie.After-load) → Loads (entry-load c .args .p) (entry-load c .args .key .now) (entry-load c .args .sealed .now) (deviceOf (entry-load c .args .country .now) (entry-load c .args .class)) (storeOf (entry-load c .args .store .now)) (c .load .result)
+loaded : (c : tie.After-load) → Loads (entry-load c .args .p) classes (entry-load c .args .key .now) (entry-load c .args .sealed .now) (deviceOf (entry-load c .args .country .now) (entry-load c .args .class)) (storeOf (entry-load c .args .store .now)) (c .load .result)
 loaded c =
     let a = entry-load c .args in
     let sized = c .before .before .before .before .before in
-    image-loads (a .p) (a .key .now) (a .sealed .now) (a .country .now) (a .class) (a .store .now)
+    image-loads (a .p) classes (a .key .now) (a .sealed .now) (a .country .now) (a .class) (a .store .now)
     (c .before .before .before .before .before .before .before .before .before .if1 .left) (set (sized .before)) (sized .if3 .left)
     _ _ _ (c .before .before .before .before .before .before .before .before .device-of .ensures) (c .before .before .before .read-store .ensures) (c .load .ensures)
 
 returns : tie.Need-returns
 returns c =
     let a = c .before .before .before .before .before .before .before .args in
-    image-country (a .p) (a .key .now) (a .sealed .now) (a .country .now) (a .class) (a .store .now)
+    image-country (a .p) classes (a .key .now) (a .sealed .now) (a .country .now) (a .class) (a .store .now)
     (c .if1 .taken)
 
 device-of-requires : tie.Need-device-of-requires
@@ -50,13 +50,13 @@ device-ok-requires c κs = search needs
 returns-2 : tie.Need-returns-2
 returns-2 c =
     let a = c .before .before .before .before .before .before .before .before .before .before .args in
-    image-device (a .p) (a .key .now) (a .sealed .now) (a .country .now) (a .class) (a .store .now)
+    image-device (a .p) classes (a .key .now) (a .sealed .now) (a .country .now) (a .class) (a .store .now)
     (c .before .before .before .if1 .left) (sym (answered (c .before)) ∙ not-true _ (c .if2 .taken))
 
 returns-3 : tie.Need-returns-3
 returns-3 c =
     let a = c .before .before .before .before .before .before .before .before .before .before .before .args in
-    image-size (a .p) (a .key .now) (a .sealed .now) (a .country .now) (a .class) (a .store .now)
+    image-size (a .p) classes (a .key .now) (a .sealed .now) (a .country .now) (a .class) (a .store .now)
     (c .before .before .before .before .if1 .left) (set (c .before)) (c .if3 .taken)
 
 read-store-requires : tie.Need-read-store-requires
@@ -79,7 +79,7 @@ returns-4 c =
     let called = c .before .before .before .before .before .before in
     let sized = called .before .before .before .before .before in
     let a = entry-load called .args in
-    image-refused (a .p) (a .key .now) (a .sealed .now) (a .country .now) (a .class) (a .store .now)
+    image-refused (a .p) classes (a .key .now) (a .sealed .now) (a .country .now) (a .class) (a .store .now)
     (sized .before .before .before .before .if1 .left) (set (sized .before)) (sized .if3 .left)
     (called .load .result) (loaded called) (c .if4 .taken)
 
@@ -100,7 +100,7 @@ returns-5 c =
     let called = c .before .before .before .before .before .before .before .before .before .before .before in
     let sized = called .before .before .before .before .before in
     let a = entry-load called .args in
-    image-loaded (a .p) (a .key .now) (a .sealed .now) (a .country .now) (a .class) (a .store .now)
+    image-loaded (a .p) classes (a .key .now) (a .sealed .now) (a .country .now) (a .class) (a .store .now)
     (sized .before .before .before .before .if1 .left) (set (sized .before)) (sized .if3 .left)
     (called .load .result) (loaded called) (c .before .before .before .before .before .if4 .left) (c .before .before .write-store .ensures)
 

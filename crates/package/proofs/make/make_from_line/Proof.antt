@@ -1,6 +1,7 @@
 -- `make_from_line`: sizes, then the line is read, and where it is one it is sealed. Assumes nothing.
 use mathlib.Core.Path.{_∙_, sym, ap}
 use borrow.Author.Needs.{needs}
+use Rattle.profile.specs.Rules.{classes}
 use Rattle.profile.specs.Line.{readAnswer}
 use Rattle.package.proofs.MakeLaws.{make-line-sizes, make-line-short, make-line-broken, read-room, make-line-sealed}
 use Rattle.package.proofs.make.make_from_line.Statement.{statement}
@@ -13,7 +14,7 @@ returns : tie.Need-returns
 returns c =
     let a = c .before .before .before .before .before .before .before .before .before .before .before .args in
     let sized = c .before .check-make in
-    make-line-sizes (a .p) (a .private .now) (a .master .now) (a .salt .now) (a .line .now) (a .out .now) (a .length .now) (sized .result) (c .if1 .taken) (sized .ensures)
+    make-line-sizes (a .p) classes (a .private .now) (a .master .now) (a .salt .now) (a .line .now) (a .out .now) (a .length .now) (sized .result) (c .if1 .taken) (sized .ensures)
 
 read-line-requires : tie.Need-read-line-requires
 read-line-requires c κs = search needs
@@ -27,7 +28,7 @@ seal-requires c κs =
     let a = start .args in
     let sized = c .before .before .before .before .before .before .before .before .before .before .before .check-make in (
       start .pre,
-      read-room (a .p) (a .private .now) (a .master .now) (a .salt .now) (a .line .now) (a .out .now) (a .length .now)
+      read-room (a .p) classes (a .private .now) (a .master .now) (a .salt .now) (a .line .now) (a .out .now) (a .length .now)
           (sized .result) (sized .ensures) (c .before .before .before .before .before .before .before .before .before .before .if1 .left) _ (sym (ap readAnswer (c .before .before .before .before .before .before .before .profile .given .1)) ∙ c .before .before .before .before .before .before .before .before .before .read-line .ensures),
     )
 
@@ -56,7 +57,7 @@ returns-2 : tie.Need-returns-2
 returns-2 c =
     let a = c .before .before .before .before .before .before .before .before .before .before .before .before .before .before .before .before .before .before .before .before .before .before .before .before .before .before .before .before .before .before .before .before .args in
     let sized = c .before .before .before .before .before .before .before .before .before .before .before .before .before .before .before .before .before .before .before .before .before .before .check-make in
-    make-line-sealed (a .p) (a .private .now) (a .master .now) (a .salt .now) (a .line .now) (a .out .now) (a .length .now)
+    make-line-sealed (a .p) classes (a .private .now) (a .master .now) (a .salt .now) (a .line .now) (a .out .now) (a .length .now)
     (sized .result) (sized .ensures) (c .before .before .before .before .before .before .before .before .before .before .before .before .before .before .before .before .before .before .before .before .before .if1 .left) _ (sym (ap readAnswer (c .before .before .before .before .before .before .before .before .before .before .before .before .before .before .before .before .before .before .profile .given .1)) ∙ c .before .before .before .before .before .before .before .before .before .before .before .before .before .before .before .before .before .before .before .before .read-line .ensures)
     (c .before .before .before .before .before .before .before .before .before .before .seal .ensures)
 
@@ -64,14 +65,14 @@ returns-3 : tie.Need-returns-3
 returns-3 c =
     let a = c .before .before .before .before .before .before .before .before .before .before .before .before .before .before .args in
     let sized = c .before .before .before .before .check-make in
-    make-line-short (a .p) (a .private .now) (a .master .now) (a .salt .now) (a .line .now) (a .out .now) (a .length .now)
+    make-line-short (a .p) classes (a .private .now) (a .master .now) (a .salt .now) (a .line .now) (a .out .now) (a .length .now)
     (sized .result) (sized .ensures) (c .before .before .before .if1 .left) (sym (ap readAnswer (c .enum-told .given .1)) ∙ c .before .before .read-line .ensures)
 
 returns-4 : tie.Need-returns-4
 returns-4 c =
     let a = c .before .before .before .before .before .before .before .before .before .before .before .before .before .before .args in
     let sized = c .before .before .before .before .check-make in
-    make-line-broken (a .p) (a .private .now) (a .master .now) (a .salt .now) (a .line .now) (a .out .now) (a .length .now)
+    make-line-broken (a .p) classes (a .private .now) (a .master .now) (a .salt .now) (a .line .now) (a .out .now) (a .length .now)
     (sized .result) (sized .ensures) (c .before .before .before .if1 .left) (sym (ap readAnswer (c .enum-told2 .given .1)) ∙ c .before .before .read-line .ensures)
 
 pub make-from-line-spec : {M : Type 1} → statement M

@@ -26,7 +26,7 @@ returns : tie.Need-returns
 returns c =
     let a = c .before .before .before .before .before .before .before .before .before .before .args in
     let sized = c .before .check-make in
-    make-sizes (a .p) (a .private .now) (a .master .now) (a .salt .now) (a .profile) (a .out .now) (a .length .now) (sized .result) (c .if1 .taken) (sized .ensures)
+    make-sizes (a .p) classes (a .private .now) (a .master .now) (a .salt .now) (a .profile) (a .out .now) (a .length .now) (sized .result) (c .if1 .taken) (sized .ensures)
 
 slice-aggregate-write-line : tie.Need-slice-aggregate-write-line
 slice-aggregate-write-line c = search needs
@@ -42,7 +42,7 @@ array-share-prefix-line c =
     let a = c .before .before .before .before .before .before .before .before .before .before .before .before .before .before .before .before .args in
     let call = c .before .before .before .before .write-line in
     let node = c .before in
-    omega (arith, call .kept .1 .0, written-short (a .profile) (call .last .1 .0) (node .n .given .0 .0) (written node))
+    omega (arith, call .kept .1 .0, written-short classes (a .profile) (call .last .1 .0) (node .n .given .0 .0) (written node))
 
 slice-aggregate-seal : tie.Need-slice-aggregate-seal
 slice-aggregate-seal c = front-length _ (c .before .before .before .before .before .write-line .last .1 .0) (array-share-prefix-line (c .before))
@@ -54,7 +54,7 @@ seal-requires c κs =
     let sized = c .before .before .before .before .before .before .before .before .before .before .before .before .before .before .check-make in
     let call = c .before .before .before .before .before .before .before .before .before .before .before .write-line in (
       start .pre,
-      front-room (a .p) (a .private .now) (a .master .now) (a .salt .now) (a .profile) (a .out .now) (a .length .now)
+      front-room (a .p) classes (a .private .now) (a .master .now) (a .salt .now) (a .profile) (a .out .now) (a .length .now)
           (sized .result) (sized .ensures) (c .before .before .before .before .before .before .before .before .before .before .before .before .before .if1 .left) _ (call .last .1 .0) (call .kept .1 .0) (array-share-prefix-line (c .before .before .before .before .before .before .before)),
     )
 
@@ -85,7 +85,7 @@ returns-2 c =
     let sized = c .before .before .before .before .before .before .before .before .before .before .before .before .before .before .before .before .before .before .before .before .before .before .before .before .before .check-make in
     let new = c .before .before .before .before .before .before .before .before .before .before .before .before .before .before .before .before .before .before .before .before .before .before .write-line .last .1 .0 in
     let node = c .before .before .before .before .before .before .before .before .before .before .before .before .before .before .before .before .before .before .before in
-    make-sealed (a .p) (a .private .now) (a .master .now) (a .salt .now) (a .profile) (a .out .now) (a .length .now)
+    make-sealed (a .p) classes (a .private .now) (a .master .now) (a .salt .now) (a .profile) (a .out .now) (a .length .now)
     (sized .result) (sized .ensures) (c .before .before .before .before .before .before .before .before .before .before .before .before .before .before .before .before .before .before .before .before .before .before .before .before .if1 .left) new (node .n .given .0 .0) (written node) (c .before .before .before .before .before .before .before .before .before .before .seal .ensures)
 
 returns-3 : tie.Need-returns-3
@@ -93,7 +93,7 @@ returns-3 c =
     let a = c .before .before .before .before .before .before .before .before .before .before .before .before .before .before .before .args in
     let call = c .before .before .before .write-line in
     absurd
-    (never-small (a .profile) (call .last .1 .0)
+    (never-small classes (a .profile) (call .last .1 .0)
     (subst (λ (r : WriteLine). Writes classes (a .profile) blank r (call .last .1 .0)) (c .enum-told .given .1) (call .ensures)))
 
 returns-4 : tie.Need-returns-4
@@ -101,7 +101,7 @@ returns-4 c =
     let a = c .before .before .before .before .before .before .before .before .before .before .before .before .before .before .before .args in
     let sized = c .before .before .before .before .before .before .check-make in
     let call = c .before .before .before .write-line in
-    make-broken (a .p) (a .private .now) (a .master .now) (a .salt .now) (a .profile) (a .out .now) (a .length .now)
+    make-broken (a .p) classes (a .private .now) (a .master .now) (a .salt .now) (a .profile) (a .out .now) (a .length .now)
     (sized .result) (sized .ensures) (c .before .before .before .before .before .if1 .left) (call .last .1 .0)
     (subst (λ (r : WriteLine). Writes classes (a .profile) blank r (call .last .1 .0)) (c .enum-told2 .given .1) (call .ensures))
 
