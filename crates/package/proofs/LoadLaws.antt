@@ -1,85 +1,35 @@
--- What loading answers: its stages one after the other, of which the first that refuses decides. Assumes nothing.
+-- What loading answers: the device, opening, storing, of which the first that refuses decides. Assumes nothing.
 use mathlib.Core.Path.{_≡_, refl, _∙_, sym, ap, subst}
-use mathlib.Core.Bool.{Bool, true, false, _&&_}
-use mathlib.Core.List.{List, [], _∷_, _++_}
-use Prim.Native.Nat.{ℕ, _-_, _≤_}
+use mathlib.Core.Bool.{true, false}
+use mathlib.Core.List.{List, _++_}
+use Prim.Native.Nat.{ℕ}
 use native.Mathlib.Omega.{arith}
-use lib.Dec.{T, leb, leb→le}
-use lib.ListN.{length, take, drop}
+use lib.ListN.{length}
 use borrow.Author.Tests.{eq-eqb, ne-eqb}
-use borrow.Rule.Slice.PartAt.{part-to-end}
-use Rattle.outcome.specs.Answer.{bad-device, Refusal, numberOf, Check, _unless_, firstRefusal}
-use Rattle.outcome.proofs.Checks.{passed, passed-front}
+use Rattle.outcome.specs.Answer.{Check, firstRefusal}
 use Rattle.parameters.specs.declared.Params.{Params}
 use Rattle.profile.specs.declared.Profile.{Profile}
-use Rattle.outcome.specs.Result.{Result, done, refused}
 use Rattle.profile.specs.Rules.{Class}
-use Rattle.profile.specs.Line.{readLine}
-use Rattle.scheme.specs.Sign.{signatureSize}
-use Rattle.scheme.specs.Verify.{verifyChecks, verify}
+use Rattle.verifier.proofs.Answering.{stops, goes-on}
 use Rattle.store.specs.declared.Device.{Device}
 use Rattle.store.specs.declared.Store.{Store}
 use Rattle.store.specs.declared.PutAnswer.{PutAnswer}
 use Rattle.store.specs.Keys.{deviceOk}
 use Rattle.store.specs.Stored.{stored}
-use Rattle.store.specs.Calls.{putChecks, Puts}
+use Rattle.store.specs.Calls.{Puts}
 use Rattle.store.proofs.PutLaws.{put-number}
 use Rattle.image.specs.Image.{storeSize, storeOf, StoreWritten}
 use Rattle.image.specs.Entries.{deviceOf}
-use Rattle.package.specs.Package.{packageMin, packageMax, signatureIn, lineIn, loadSizes, storeChecks, loadChecks}
-use Rattle.package.specs.Entries.{Loads, loadImageChecks, LoadsImage}
-use Rattle.package.proofs.Stages.{decides}
-
-both-left : (a b : Bool) → T (a && b) → T a
-both-left true b h = tt
-both-left false b h = absurd h
-
--- a package of a right size has all of a signature
-pub signature-within : (p : Params) (key sealed : ℕ) → firstRefusal (loadSizes p key sealed) ≡ 0 → signatureSize p ≤ sealed
-signature-within p key sealed e =
-    let inside : T (leb (packageMin p) sealed && leb sealed (packageMax p)) = passed (loadSizes p key sealed) e .1 .0 in
-    let least : packageMin p ≤ sealed = leb→le (packageMin p) sealed (both-left (leb (packageMin p) sealed) (leb sealed (packageMax p)) inside) in
-    omega arith
-
--- the parts of a package before and behind the end of its signature
-module _ (p : Params) (sealed : List ℕ) (n : ℕ) (size : n ≡ signatureSize p) where
-  signature-part : take n sealed ≡ signatureIn p sealed
-  unfolding signatureIn
-  signature-part = ap (λ (k : ℕ). take k sealed) size
-
-  line-part : take (length sealed - n) (drop n sealed) ≡ lineIn p sealed
-  unfolding lineIn
-  line-part = part-to-end sealed n ∙ ap (λ (k : ℕ). drop k sealed) size
-
-  -- what the verifier and the reader of lines answer for these parts
-  pub verify-parts : (key : List ℕ) {k : ℕ} → k ≡ verify p key (take (length sealed - n) (drop n sealed)) (take n sealed)
-      → k ≡ verify p key (lineIn p sealed) (signatureIn p sealed)
-  verify-parts key e =
-      e
-      ∙ (ap (λ (line : List ℕ). verify p key line (take n sealed)) line-part
-      ∙ ap (λ (sig : List ℕ). verify p key (lineIn p sealed) sig) signature-part)
-
-  pub read-part : (table : List Class) {x : Result Profile} → x ≡ readLine table (take (length sealed - n) (drop n sealed))
-      → x ≡ readLine table (lineIn p sealed)
-  read-part table e = e ∙ ap (λ (line : List ℕ). readLine table line) line-part
+use Rattle.package.specs.declared.load.Opened.the-variants as opening
+use Rattle.package.specs.Package.{storeChecks, openChecks, opened, loadChecks}
+use Rattle.package.specs.Entries.{Opens, Loads, loadImageChecks, LoadsImage}
+use Rattle.package.proofs.OpenLaws.{opened-passed, refusal-opened, profile-opened}
 
 -- ---- stages
 
 module _ (p : Params) (table : List Class) (key sealed : List ℕ) (device : Device) (old : Store) where
   abbrev All : List Check
   All = loadChecks p table key sealed device (stored old)
-
-  abbrev Sizes : List Check
-  Sizes = loadSizes p (length key) (length sealed)
-
-  abbrev Verifying : List Check
-  Verifying = verifyChecks p key (lineIn p sealed) (signatureIn p sealed)
-
-  abbrev Storing : List Check
-  Storing = storeChecks p device (stored old) (readLine table (lineIn p sealed))
-
-  abbrev Front : List Check
-  Front = (bad-device unless deviceOk table device ∷ []) ++ Sizes
 
   -- a refusal, and the store as it was
   refuses : (k : ℕ) {r : PutAnswer} → k ≡ firstRefusal All → (k ≡ 0 → ⊥) → (r .answer ≡ k) × (r .store ≡ old)
@@ -93,46 +43,33 @@ module _ (p : Params) (table : List Class) (key sealed : List ℕ) (device : Dev
   load-device bad = refuses 10 (rw bad) (λ z. omega arith)
 
   module _ (set : deviceOk table device ≡ true) where
-    pub load-sizes : (k : ℕ) {r : PutAnswer} → k ≡ firstRefusal Sizes → (k ≡ 0 → ⊥) → (r .answer ≡ k) × (r .store ≡ old)
-        → Loads p table key sealed device old r
+    abbrev Opening : List Check
+    Opening = openChecks p table key sealed
+
+    abbrev Storing : List Check
+    Storing = storeChecks device (stored old) (opened p table key sealed)
+
+    -- opening and storing decide
+    behind : firstRefusal All ≡ firstRefusal (Opening ++ Storing)
     unfolding loadChecks
-    load-sizes k e other =
-        let here : k ≡ firstRefusal Front = rw set e in
-        refuses k (decides (Front ++ Verifying) Storing k other (decides Front Verifying k other here)) other
+    behind = rw set refl
 
-    module _ (sized : firstRefusal Sizes ≡ 0) where
-      front : firstRefusal Front ≡ 0
-      front = rw set sized
+    pub load-refused : {k : ℕ} {r : PutAnswer} → Opens p table key sealed (opening.Refused k) → (r .answer ≡ k) × (r .store ≡ old)
+        → Loads p table key sealed device old r
+    load-refused {k} opens kept =
+        let refusal = refusal-opened p table key sealed opens in
+        refuses k (stops Opening Storing (refusal .0) (refusal .1) ∙ sym behind) (refusal .1) kept
 
-      pub load-verify : (k : ℕ) {r : PutAnswer} → k ≡ verify p key (lineIn p sealed) (signatureIn p sealed) → (k ≡ 0 → ⊥)
-          → (r .answer ≡ k) × (r .store ≡ old) → Loads p table key sealed device old r
-      unfolding loadChecks verify
-      load-verify k e other =
-          let here : k ≡ firstRefusal (Front ++ Verifying) = e ∙ sym (passed-front Front Verifying front) in
-          refuses k (decides (Front ++ Verifying) Storing k other here) other
-
-      module _ (verified : verify p key (lineIn p sealed) (signatureIn p sealed) ≡ 0) where
-        -- what is stored decides
-        last : firstRefusal All ≡ firstRefusal Storing
-        unfolding loadChecks verify
-        last = passed-front (Front ++ Verifying) Storing (passed-front Front Verifying front ∙ verified)
-
-        pub load-line : (q : Refusal) {r : PutAnswer} → refused q ≡ readLine table (lineIn p sealed)
-            → (r .answer ≡ numberOf q) × (r .store ≡ old) → Loads p table key sealed device old r
-        load-line q read =
-            let here : numberOf q ≡ firstRefusal Storing = ap (λ (x : Result Profile). firstRefusal (storeChecks p device (stored old) x)) read in
-            refuses (numberOf q) (here ∙ sym last) (λ e. passed (q unless false ∷ []) e .0)
-
-        pub load-put : (profile : Profile) {r : PutAnswer} → done profile ≡ readLine table (lineIn p sealed)
-            → Puts device profile old r → Loads p table key sealed device old r
-        load-put profile read puts =
-            let here : firstRefusal (putChecks device profile (stored old)) ≡ firstRefusal Storing =
-            ap (λ (x : Result Profile). firstRefusal (storeChecks p device (stored old) x)) read in
-            record {
-              answer = puts .answer ∙ (put-number device profile (stored old) ∙ (here ∙ sym last));
-              taken = λ z. (profile, sym read, puts .taken z);
-              kept = puts .kept;
-            }
+    pub load-put : {profile : Profile} {r : PutAnswer} → Opens p table key sealed (opening.Profile profile) → Puts device profile old r
+        → Loads p table key sealed device old r
+    load-put {profile} {r} opens puts =
+        let found = profile-opened p table key sealed opens in
+        let storing : r .answer ≡ firstRefusal Storing = rw (found .1) (puts .answer ∙ put-number device profile (stored old)) in
+        record {
+          answer = goes-on Opening Storing (sym (found .0)) refl storing ∙ sym behind;
+          taken = λ z. (profile, sym (opened-passed p table key sealed (found .0)) ∙ found .1, puts .taken z);
+          kept = puts .kept;
+        }
 
 -- ---- over an image
 

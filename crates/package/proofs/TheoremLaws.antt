@@ -11,7 +11,7 @@ use Rattle.outcome.specs.Answer.{bad-line, bad-device, Check, _unless_, firstRe
 use Rattle.outcome.proofs.Checks.{passed, passed-front, both-passed}
 use Rattle.parameters.specs.declared.Params.{Params}
 use Rattle.profile.specs.declared.Profile.{Profile}
-use Rattle.outcome.specs.Result.{done}
+use Rattle.outcome.specs.Result.{done, refusalIn}
 use Rattle.profile.specs.Rules.{Class, contains, letters, classIn, isClass, valid}
 use Rattle.profile.specs.Line.{lineOf, readLine}
 use Rattle.profile.proofs.RuleLaws.{holds, inside, parts}
@@ -24,7 +24,8 @@ use Rattle.store.specs.Keys.{hasClass, deviceOk}
 use Rattle.store.specs.Calls.{putNumber}
 use Rattle.store.proofs.KeyLaws.{device-class}
 use Rattle.store.proofs.PutLaws.{put-number}
-use Rattle.package.specs.Package.{packageMin, packageMax, makeSizes, makeChecks, signatureIn, lineIn, loadSizes, storeChecks, loadChecks}
+use Rattle.package.specs.Package.{packageMin, packageMax, makeSizes, makeChecks, signatureIn, lineIn, openSizes, openChecks, opened, storeChecks, loadChecks}
+use Rattle.package.proofs.OpenLaws.{opened-passed}
 
 -- ---- making
 
@@ -41,52 +42,62 @@ made-passed p table private master salt profile lent e =
 
 -- ---- loading
 
--- the four lists of loading, each answered 0
+-- the stages of loading, each answered 0
 pub record LoadPassed (p : Params) (table : List Class) (key sealed : List ℕ) (device : Device) (ps : List Profile) : Type 0 where
   pub device-ok : deviceOk table device ≡ true
-  pub sized : firstRefusal (loadSizes p (length key) (length sealed)) ≡ 0
+  pub sized : firstRefusal (openSizes p (length key) (length sealed)) ≡ 0
   pub verified : verify p key (lineIn p sealed) (signatureIn p sealed) ≡ 0
-  pub storing : firstRefusal (storeChecks p device ps (readLine table (lineIn p sealed))) ≡ 0
+  pub read : firstRefusal (refusalIn (readLine table (lineIn p sealed))) ≡ 0
+  pub storing : firstRefusal (storeChecks device ps (readLine table (lineIn p sealed))) ≡ 0
 
 module _ (p : Params) (table : List Class) (key sealed : List ℕ) (device : Device) (ps : List Profile) where
   abbrev deviceCheck : List Check
   deviceCheck = bad-device unless deviceOk table device ∷ []
 
   abbrev sizes : List Check
-  sizes = loadSizes p (length key) (length sealed)
+  sizes = openSizes p (length key) (length sealed)
 
   abbrev verifying : List Check
   verifying = verifyChecks p key (lineIn p sealed) (signatureIn p sealed)
 
+  abbrev reading : List Check
+  reading = refusalIn (readLine table (lineIn p sealed))
+
   abbrev storing : List Check
-  storing = storeChecks p device ps (readLine table (lineIn p sealed))
+  storing = storeChecks device ps (opened p table key sealed)
+
+  -- what is stored is what was read
+  storing-read : firstRefusal (openChecks p table key sealed) ≡ 0
+      → firstRefusal storing ≡ firstRefusal (storeChecks device ps (readLine table (lineIn p sealed)))
+  storing-read e = rw (opened-passed p table key sealed e) refl
 
   pub load-passed : firstRefusal (loadChecks p table key sealed device ps) ≡ 0 → LoadPassed p table key sealed device ps
-  unfolding loadChecks verify
+  unfolding loadChecks openChecks verify
   load-passed e =
-      let last = both-passed (deviceCheck ++ sizes ++ verifying) storing e in
-      let third = both-passed (deviceCheck ++ sizes) verifying (last .0) in
-      let second = both-passed deviceCheck sizes (third .0) in
+      let first = both-passed deviceCheck (openChecks p table key sealed ++ storing) e in
+      let second = both-passed (openChecks p table key sealed) storing (first .1) in
+      let third = both-passed sizes (verifying ++ reading) (second .0) in
+      let fourth = both-passed verifying reading (third .1) in
       record {
-        device-ok = holds (deviceOk table device) (passed deviceCheck (second .0) .0);
-        sized = second .1;
-        verified = third .1;
-        storing = last .1;
+        device-ok = holds (deviceOk table device) (passed deviceCheck (first .0) .0);
+        sized = third .0;
+        verified = fourth .0;
+        read = fourth .1;
+        storing = sym (storing-read (second .0)) ∙ second .1;
       }
 
   pub load-accepts : LoadPassed p table key sealed device ps → firstRefusal (loadChecks p table key sealed device ps) ≡ 0
-  unfolding loadChecks verify
+  unfolding loadChecks openChecks verify
   load-accepts all =
-      passed-front (deviceCheck ++ sizes ++ verifying) storing
-      (passed-front (deviceCheck ++ sizes) verifying
-      (passed-front deviceCheck sizes (rw (all .device-ok)) ∙ all .sized)
-      ∙ all .verified)
-      ∙ all .storing
+      let opens : firstRefusal (openChecks p table key sealed) ≡ 0 =
+      passed-front sizes (verifying ++ reading) (all .sized) ∙ (passed-front verifying reading (all .verified) ∙ all .read) in
+      passed-front deviceCheck (openChecks p table key sealed ++ storing) (rw (all .device-ok))
+      ∙ (passed-front (openChecks p table key sealed) storing opens ∙ (storing-read opens ∙ all .storing))
 
 -- where a profile is read, what is left is putting it
 pub storing-put : (p : Params) (table : List Class) (sealed : List ℕ) (device : Device) (ps : List Profile) (profile : Profile)
     → readLine table (lineIn p sealed) ≡ done profile
-    → firstRefusal (storeChecks p device ps (readLine table (lineIn p sealed))) ≡ putNumber device profile ps
+    → firstRefusal (storeChecks device ps (readLine table (lineIn p sealed))) ≡ putNumber device profile ps
 storing-put p table sealed device ps profile read = rw read (sym (put-number device profile ps))
 
 -- what the verifier answers 0 for has a key of its size
@@ -148,5 +159,6 @@ module _ (p : Params) (table : List Class) (key sig : List ℕ) (profile : Profi
           inside (packageMin p) (packageMax p) (length sealed) (omega (arith, bounds .0)) (omega (arith, bounds .1)),
         );
         verified = rw (line, signature-back p sig (lineOf profile) sized) verified;
+        read = rw (line, reads-written table profile ok) refl;
         storing = storing-put p table sealed device ps profile (rw line (reads-written table profile ok)) ∙ put;
       })

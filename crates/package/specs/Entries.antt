@@ -1,4 +1,4 @@
--- What making and loading a package answer, and the final content of what was lent.
+-- What making, opening and loading a package answer, and the final content of what was lent.
 -- Assumes nothing.
 use mathlib.Core.Path.{_≡_}
 use mathlib.Core.List.{List, [], _∷_, _++_}
@@ -7,14 +7,11 @@ use lib.Dec.{eqb}
 use lib.ListN.{length}
 use Rattle.outcome.specs.Answer.{bad-size, bad-device, Check, _unless_, firstRefusal, AnswersFront}
 use Rattle.parameters.specs.declared.Params.{Params}
-use Rattle.parameters.specs.Sound.{Sound}
 use Rattle.profile.specs.declared.Profile.{Profile}
-use Rattle.outcome.specs.Result.{done}
+use Rattle.outcome.specs.Result.{done, numberIn, valuesIn}
 use Rattle.profile.specs.Rules.{Class}
 use Rattle.profile.specs.Line.{longest, lineOf, readLine}
-use Rattle.scheme.specs.Key.{matrixCount}
 use Rattle.scheme.specs.Sign.{signatureSize, signChecks}
-use Rattle.signer.specs.State.{stateSize}
 use Rattle.store.specs.declared.Device.{Device}
 use Rattle.store.specs.declared.Store.{Store}
 use Rattle.store.specs.declared.PutAnswer.{PutAnswer}
@@ -23,17 +20,10 @@ use Rattle.store.specs.Stored.{stored}
 use Rattle.store.specs.Calls.{Stores}
 use Rattle.image.specs.Image.{storeSize, storeOf, StoreWritten}
 use Rattle.image.specs.Entries.{deviceOf}
-use Rattle.package.specs.Package.{packageMax, packageOf, makeChecks, makeLineChecks, lineIn, loadChecks}
+use Rattle.package.specs.declared.load.Opened.{Opened}
+use Rattle.package.specs.Package.{packageMax, packageOf, makeChecks, makeLineChecks, lineIn, openNumber, openValues, opened, loadChecks}
 
 module _ (p : Params) where
-  -- ---- lent scratch: sound sizes, a block for V and V; for signing also the seeds and the states of the rounds
-
-  abbrev pub Scratch : List ℕ → List ℕ → Type 0
-  Scratch block vs = Sound p × (length block ≡ p .matrix) × (length vs ≡ matrixCount p + 8)
-
-  abbrev pub SignScratch : List ℕ → List ℕ → Type 0
-  SignScratch seeds states = (length seeds ≡ p .t * p .seed) × (length states ≡ p .t * stateSize p)
-
   -- ---- making: the package at the front of what was lent, past it the bytes as they were, and its length; after a refusal bytes and
   -- length are as they were
 
@@ -53,6 +43,12 @@ module _ (p : Params) where
   abbrev pub MakesFromLine : List Class → List ℕ → List ℕ → List ℕ → List ℕ → List ℕ → ℕ → ℕ → List ℕ → ℕ → Type 0
   MakesFromLine table private master salt line old =
       AnswersFront (makeLineChecks p table private master salt line (length old)) (packageOf p private master salt line) old
+
+  -- ---- opening
+
+  pub record Opens (table : List Class) (key sealed : List ℕ) (r : Opened) : Type 0 where
+    pub number : openNumber r ≡ numberIn (opened p table key sealed)
+    pub value : openValues r ≡ valuesIn (opened p table key sealed)
 
   -- ---- loading
 

@@ -1,7 +1,7 @@
--- A package is the signature of a line, followed by the line (document 01, "Profile line, package, shelf"): making one, and loading
--- one, each as its tests in the order in which they refuse (table "Returned" and the paragraph after it).
+-- A package is the signature of a line, followed by the line (document 01, "Profile line, package, shelf"): making one, opening
+-- one, and storing what was opened, each as its tests in the order in which they refuse (table "Returned" and the paragraph after
+-- it).
 -- Assumes nothing.
-use mathlib.Core.Bool.{false}
 use mathlib.Core.List.{List, [], _∷_, _++_}
 use Prim.Native.Nat.{ℕ, _+_}
 use lib.Dec.{eqb}
@@ -17,7 +17,23 @@ use Rattle.scheme.specs.Sign.{signatureSize, signChecks, signature}
 use Rattle.scheme.specs.Verify.{verifyChecks}
 use Rattle.store.specs.declared.Device.{Device}
 use Rattle.store.specs.Keys.{deviceOk}
-use Rattle.store.specs.Calls.{putChecks}
+use Rattle.store.specs.Calls.{after, putChecks}
+use Rattle.package.specs.declared.load.Opened.{Opened}
+use Rattle.package.specs.declared.load.Opened.the-variants as opening
+
+-- what was opened is stored for the device; where nothing was, opening has refused
+abbrev pub storeChecks : Device → List Profile → Result Profile → List Check
+storeChecks device ps (done profile) = putChecks device profile ps
+storeChecks device ps (refused r) = []
+
+-- what each case of `open`'s answer means: its number, and the profile where there is one
+abbrev pub openNumber : Opened → ℕ
+openNumber (opening.Profile profile) = 0
+openNumber (opening.Refused number) = number
+
+abbrev pub openValues : Opened → List Profile
+openValues (opening.Profile profile) = profile ∷ []
+openValues (opening.Refused number) = []
 
 module _ (p : Params) where
   -- the sizes of packages: a signature with the shortest, with the longest line
@@ -56,7 +72,7 @@ module _ (p : Params) where
       ++ refusalIn (readLine table line)
       ++ signChecks p private master salt line (signatureSize p)
 
-  -- ---- loading
+  -- ---- opening
 
   -- a package's signature, and its line
   unfoldable pub signatureIn : List ℕ → List ℕ
@@ -66,19 +82,24 @@ module _ (p : Params) where
   lineIn sealed = drop (signatureSize p) sealed
 
   -- the sizes of key and package
-  abbrev pub loadSizes : ℕ → ℕ → List Check
-  loadSizes key sealed =
+  abbrev pub openSizes : ℕ → ℕ → List Check
+  openSizes key sealed =
       bad-size unless eqb key (keySize p) ∷ bad-size unless contains (packageMin to packageMax) sealed ∷ []
 
-  -- what was read is stored for the device, where something was read
-  abbrev pub storeChecks : Device → List Profile → Result Profile → List Check
-  storeChecks device ps (done profile) = putChecks device profile ps
-  storeChecks device ps (refused r) = r unless false ∷ []
+  -- sizes; the signature over the line; the line
+  unfoldable pub openChecks : List Class → List ℕ → List ℕ → List Check
+  openChecks table key sealed =
+      openSizes (length key) (length sealed)
+      ++ (verifyChecks p key (lineIn sealed) (signatureIn sealed) ++ refusalIn (readLine table (lineIn sealed)))
 
-  -- The device; sizes; the signature over the line; the line; then storing among the profiles ps.
+  -- the profile that the line means, unless a check fails before
+  unfoldable pub opened : List Class → List ℕ → List ℕ → Result Profile
+  opened table key sealed = after (openChecks table key sealed) (readLine table (lineIn sealed))
+
+  -- ---- loading
+
+  -- The device; opening; then storing what was opened among the profiles ps.
   unfoldable pub loadChecks : List Class → List ℕ → List ℕ → Device → List Profile → List Check
   loadChecks table key sealed device ps =
-      (bad-device unless deviceOk table device ∷ [])
-      ++ loadSizes (length key) (length sealed)
-      ++ verifyChecks p key (lineIn sealed) (signatureIn sealed)
-      ++ storeChecks device ps (readLine table (lineIn sealed))
+      bad-device unless deviceOk table device
+      ∷ (openChecks table key sealed ++ storeChecks device ps (opened table key sealed))

@@ -4,6 +4,7 @@ use image::device_of;
 use image::get::read_store;
 use image::put::write_store;
 use parameters::Params;
+use profile::Profile;
 use profile::ReadLine;
 use profile::read_line;
 use store::Device;
@@ -12,8 +13,36 @@ use store::Store;
 use store::device_ok;
 use store::put;
 ghost use mathlib.Core.Path.{_≡_};
+ghost use Rattle.expand.specs.Scratch.{Scratch};
 ghost use Rattle.profile.specs.Rules.{classes};
-ghost use Rattle.package.specs.Entries.{Scratch, Loads, LoadsImage};
+ghost use Rattle.package.specs.Entries.{Opens, Loads, LoadsImage};
+
+// What a package holds: a profile; or the number of the refusal, which is not 0.
+pub enum Opened {
+    Profile(Profile),
+    Refused(u8),
+}
+
+// The profile of a package's line, where sizes, signature and line are right.
+pub fn open(p: Params, key: &[u8], sealed: &[u8], block: &mut [u8], vs: &mut [u8]) -> Opened
+    requires { ⌜ Scratch p (now block) (now vs) ⌝ }
+    ensures { λ r. ⌜ Opens p classes (now (key .entry)) (now (sealed .entry)) r ⌝ }
+{
+    let sized = sizes::check_open(p, key.len(), sealed.len());
+    if sized != 0 {
+        return Opened::Refused(sized);
+    }
+    let size = sizes::signature_size(p);
+    let refusal = verifier::verify::verify(p, key, &sealed[size..], &sealed[..size], block, vs);
+    if refusal != 0 {
+        return Opened::Refused(refusal);
+    }
+    match read_line(&sealed[size..]) {
+        ReadLine::Read(profile) => Opened::Profile(profile),
+        ReadLine::BadSize => Opened::Refused(1),
+        ReadLine::BadLine => Opened::Refused(5),
+    }
+}
 
 // An answer that leaves the store as it was.
 fn refuse(answer: u8, store: Store) -> PutAnswer
@@ -41,19 +70,9 @@ pub fn load(
     if !device_ok(device) {
         return refuse(10, store);
     }
-    let sized = sizes::check_load(p, key.len(), sealed.len());
-    if sized != 0 {
-        return refuse(sized, store);
-    }
-    let size = sizes::signature_size(p);
-    let refusal = verifier::verify::verify(p, key, &sealed[size..], &sealed[..size], block, vs);
-    if refusal != 0 {
-        return refuse(refusal, store);
-    }
-    match read_line(&sealed[size..]) {
-        ReadLine::Read(profile) => put(store, profile, device),
-        ReadLine::BadSize => refuse(1, store),
-        ReadLine::BadLine => refuse(5, store),
+    match open(p, key, sealed, block, vs) {
+        Opened::Profile(profile) => put(store, profile, device),
+        Opened::Refused(refusal) => refuse(refusal, store),
     }
 }
 

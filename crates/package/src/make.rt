@@ -7,8 +7,9 @@ use profile::ReadLine;
 use profile::WriteLine;
 use profile::read_line;
 use profile::write_line;
+ghost use Rattle.signer.specs.Scratch.{SignScratch};
 ghost use Rattle.profile.specs.Rules.{classes};
-ghost use Rattle.package.specs.Entries.{Scratch, SignScratch, Room, Seals, MakesPackage, MakesFromLine};
+ghost use Rattle.package.specs.Entries.{Room, Seals, MakesPackage, MakesFromLine};
 
 // Signs a line into the front of what is lent and puts the line behind the signature.
 fn seal(
@@ -24,7 +25,7 @@ fn seal(
     out: &mut [u8],
     length: &mut usize,
 ) -> u8
-    requires { ⌜ Scratch p (now block) (now vs) × SignScratch p (now seeds) (now states) ⌝ }
+    requires { ⌜ SignScratch p (now block) (now vs) (now seeds) (now states) ⌝ }
     requires { ⌜ Room p (now line) (now out) ⌝ }
     ensures { λ r. ⌜ Seals p (now (private .entry)) (now (master .entry)) (now (salt .entry)) (now (line .entry)) (now (out .entry)) (now (length .entry)) r (now (out .exit)) (now (length .exit)) ⌝ }
 {
@@ -64,7 +65,7 @@ pub fn make_package(
     out: &mut [u8],
     length: &mut usize,
 ) -> u8
-    requires { ⌜ Scratch p (now block) (now vs) × SignScratch p (now seeds) (now states) ⌝ }
+    requires { ⌜ SignScratch p (now block) (now vs) (now seeds) (now states) ⌝ }
     ensures { λ r. ⌜ MakesPackage p classes (now (private .entry)) (now (master .entry)) (now (salt .entry)) profile (now (out .entry)) (now (length .entry)) r (now (out .exit)) (now (length .exit)) ⌝ }
 {
     let refusal = sizes::check_make(p, private, master, salt, out.len());
@@ -105,7 +106,7 @@ pub fn make_from_line(
     out: &mut [u8],
     length: &mut usize,
 ) -> u8
-    requires { ⌜ Scratch p (now block) (now vs) × SignScratch p (now seeds) (now states) ⌝ }
+    requires { ⌜ SignScratch p (now block) (now vs) (now seeds) (now states) ⌝ }
     ensures { λ r. ⌜ MakesFromLine p classes (now (private .entry)) (now (master .entry)) (now (salt .entry)) (now (line .entry)) (now (out .entry)) (now (length .entry)) r (now (out .exit)) (now (length .exit)) ⌝ }
 {
     let refusal = sizes::check_make(p, private, master, salt, out.len());

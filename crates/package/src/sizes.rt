@@ -1,4 +1,4 @@
-// The sizes of packages, and of what making and loading one takes.
+// The sizes of packages, and of what making and opening one takes.
 use parameters::Params;
 use profile::LONGEST;
 use profile::SHORTEST;
@@ -6,7 +6,7 @@ ghost use mathlib.Core.Path.{_≡_};
 ghost use Rattle.outcome.specs.Answer.{firstRefusal};
 ghost use Rattle.parameters.specs.Sound.{Sound};
 ghost use Rattle.scheme.specs.Sign.{signatureSize};
-ghost use Rattle.package.specs.Package.{makeSizes, loadSizes};
+ghost use Rattle.package.specs.Package.{makeSizes, openSizes};
 
 // Bytes of a signature.
 pub fn signature_size(p: Params) -> usize
@@ -39,9 +39,9 @@ pub fn check_make(p: Params, private: &[u8], master: &[u8], salt: &[u8], lent: u
 }
 
 // The sizes of a key and of a package.
-pub fn check_load(p: Params, key: usize, sealed: usize) -> u8
+pub fn check_open(p: Params, key: usize, sealed: usize) -> u8
     requires { ⌜ Sound p ⌝ }
-    ensures { λ r. ⌜ r ≡ firstRefusal (loadSizes p key sealed) ⌝ }
+    ensures { λ r. ⌜ r ≡ firstRefusal (openSizes p key sealed) ⌝ }
 {
     if key != p.digest + packing::packed_size(p.n - p.k, 7) {
         return 1;

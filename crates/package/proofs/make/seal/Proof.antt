@@ -82,7 +82,7 @@ returns-2 c =
     let signing = c .before .before .before .before .before .before .before .before .before .before .before .before .before .before .before .sign in
     let copied = c .before .before .copy in
     seal-done (a .p) (a .private .now) (a .master .now) (a .salt .now) (a .line .now) (a .out .now) (size .result) (size .ensures) (start .pre .1)
-    (signing .result) (signing .last .1 .1 .1 .1 .1 .1 .1 .1 .1 .0) (signing .ensures) (start .pre .0 .0 .0) (c .before .before .before .before .if1 .left) (a .length .now) (copied .last .0) (copied .ensures)
+    (signing .result) (signing .last .1 .1 .1 .1 .1 .1 .1 .1 .1 .0) (signing .ensures) (start .pre .0 .0) (c .before .before .before .before .if1 .left) (a .length .now) (copied .last .0) (copied .ensures)
 
 pub seal-spec : {M : Type 1} → statement M
 seal-spec =

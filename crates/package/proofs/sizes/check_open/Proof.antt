@@ -1,4 +1,4 @@
--- `check_load`: each return answers one check. Assumes nothing.
+-- `check_open`: each return answers one check. Assumes nothing.
 use mathlib.Core.Path.{_≡_, refl, _∙_, sym, ap}
 use Prim.Native.Nat.{ℕ, _+_}
 use native.Mathlib.Omega.{arith}
@@ -7,8 +7,8 @@ use borrow.Author.Tests.{eq-eqb, ne-eqb, le-leb, lt-leb}
 use Rattle.scheme.specs.Key.{keySize}
 use Rattle.package.specs.Package.{packageMin, packageMax}
 use Rattle.package.proofs.SizeLaws.{signature-bounded, key-bounded}
-use Rattle.package.proofs.sizes.check_load.Statement.{statement}
-use Rattle.package.proofs.sizes.check_load.Tie as tie
+use Rattle.package.proofs.sizes.check_open.Statement.{statement}
+use Rattle.package.proofs.sizes.check_open.Tie as tie
 
 -- the key's size as the code computes it
 key-size : (c : tie.After-packed-size) →
@@ -76,8 +76,8 @@ returns-4 c =
     )
     refl
 
-pub check-load-spec : {M : Type 1} → statement M
-check-load-spec =
+pub check-open-spec : {M : Type 1} → statement M
+check-open-spec =
     tie.close
     (tie.spec
     sub-packed-size
