@@ -7,7 +7,8 @@ use native.Mathlib.Omega.{arith}
 use lib.Dec.{T, eqb}
 use lib.ListN.{length, length-append}
 use lib.Seq.{take-at, drop-at}
-use Rattle.outcome.specs.Answer.{bad-line, bad-device, Check, _unless_, firstRefusal, pick}
+use borrow.Author.Tests.{eq-eqb}
+use Rattle.outcome.specs.Answer.{bad-size, bad-line, bad-device, Check, _unless_, firstRefusal, pick}
 use Rattle.outcome.proofs.Checks.{passed, passed-front, both-passed}
 use Rattle.parameters.specs.declared.Params.{Params}
 use Rattle.profile.specs.declared.Profile.{Profile}
@@ -20,7 +21,8 @@ use Rattle.scheme.specs.Key.{keySize}
 use Rattle.scheme.specs.Sign.{signatureSize, signChecks}
 use Rattle.scheme.specs.Verify.{verifyChecks, verify}
 use Rattle.store.specs.declared.Device.{Device}
-use Rattle.store.specs.Keys.{hasClass, deviceOk}
+use Rattle.store.specs.Keys.{hasClass, deviceOf, deviceOk}
+use Rattle.store.specs.Stored.{storeSize, stored}
 use Rattle.store.specs.Calls.{putNumber}
 use Rattle.store.proofs.KeyLaws.{device-class}
 use Rattle.store.proofs.PutLaws.{put-number}
@@ -43,16 +45,22 @@ made-passed p table private master salt profile lent e =
 -- ---- loading
 
 -- the stages of loading, each answered 0
-pub record LoadPassed (p : Params) (table : List Class) (key sealed : List ℕ) (device : Device) (ps : List Profile) : Type 0 where
-  pub device-ok : deviceOk table device ≡ true
+pub record LoadPassed (p : Params) (table : List Class) (key sealed country : List ℕ) (class : ℕ) (old : List ℕ) : Type 0 where
+  pub two : eqb (length country) 2 ≡ true
+  pub device-ok : deviceOk table (deviceOf country class) ≡ true
+  pub whole : eqb (length old) storeSize ≡ true
   pub sized : firstRefusal (openSizes p (length key) (length sealed)) ≡ 0
   pub verified : verify p key (lineIn p sealed) (signatureIn p sealed) ≡ 0
   pub read : firstRefusal (refusalIn (readLine table (lineIn p sealed))) ≡ 0
-  pub storing : firstRefusal (storeChecks device ps (readLine table (lineIn p sealed))) ≡ 0
+  pub storing : firstRefusal (storeChecks (deviceOf country class) (stored old) (readLine table (lineIn p sealed))) ≡ 0
 
-module _ (p : Params) (table : List Class) (key sealed : List ℕ) (device : Device) (ps : List Profile) where
-  abbrev deviceCheck : List Check
-  deviceCheck = bad-device unless deviceOk table device ∷ []
+module _ (p : Params) (table : List Class) (key sealed country : List ℕ) (class : ℕ) (old : List ℕ) where
+  abbrev front : List Check
+  front =
+      bad-device unless eqb (length country) 2
+      ∷ bad-device unless deviceOk table (deviceOf country class)
+      ∷ bad-size unless eqb (length old) storeSize
+      ∷ []
 
   abbrev sizes : List Check
   sizes = openSizes p (length key) (length sealed)
@@ -63,36 +71,42 @@ module _ (p : Params) (table : List Class) (key sealed : List ℕ) (device : Dev
   abbrev reading : List Check
   reading = refusalIn (readLine table (lineIn p sealed))
 
-  abbrev storing : List Check
-  storing = storeChecks device ps (opened p table key sealed)
+  abbrev opens : List Check
+  opens = openChecks p table key sealed
+
+  abbrev stores : List Check
+  stores = storeChecks (deviceOf country class) (stored old) (opened p table key sealed)
 
   -- what is stored is what was read
-  storing-read : firstRefusal (openChecks p table key sealed) ≡ 0
-      → firstRefusal storing ≡ firstRefusal (storeChecks device ps (readLine table (lineIn p sealed)))
-  storing-read e = rw (opened-passed p table key sealed e) refl
+  stores-read : firstRefusal opens ≡ 0
+      → firstRefusal stores ≡ firstRefusal (storeChecks (deviceOf country class) (stored old) (readLine table (lineIn p sealed)))
+  stores-read e = rw (opened-passed p table key sealed e) refl
 
-  pub load-passed : firstRefusal (loadChecks p table key sealed device ps) ≡ 0 → LoadPassed p table key sealed device ps
+  pub load-passed : firstRefusal (loadChecks p table key sealed country class old) ≡ 0 → LoadPassed p table key sealed country class old
   unfolding loadChecks openChecks verify
   load-passed e =
-      let first = both-passed deviceCheck (openChecks p table key sealed ++ storing) e in
-      let second = both-passed (openChecks p table key sealed) storing (first .1) in
+      let first = both-passed front (opens ++ stores) e in
+      let second = both-passed opens stores (first .1) in
       let third = both-passed sizes (verifying ++ reading) (second .0) in
       let fourth = both-passed verifying reading (third .1) in
+      let tests = passed front (first .0) in
       record {
-        device-ok = holds (deviceOk table device) (passed deviceCheck (first .0) .0);
+        two = holds (eqb (length country) 2) (tests .0);
+        device-ok = holds (deviceOk table (deviceOf country class)) (tests .1 .0);
+        whole = holds (eqb (length old) storeSize) (tests .1 .1 .0);
         sized = third .0;
         verified = fourth .0;
         read = fourth .1;
-        storing = sym (storing-read (second .0)) ∙ second .1;
+        storing = sym (stores-read (second .0)) ∙ second .1;
       }
 
-  pub load-accepts : LoadPassed p table key sealed device ps → firstRefusal (loadChecks p table key sealed device ps) ≡ 0
+  pub load-accepts : LoadPassed p table key sealed country class old → firstRefusal (loadChecks p table key sealed country class old) ≡ 0
   unfolding loadChecks openChecks verify
   load-accepts all =
-      let opens : firstRefusal (openChecks p table key sealed) ≡ 0 =
+      let opening : firstRefusal opens ≡ 0 =
       passed-front sizes (verifying ++ reading) (all .sized) ∙ (passed-front verifying reading (all .verified) ∙ all .read) in
-      passed-front deviceCheck (openChecks p table key sealed ++ storing) (rw (all .device-ok))
-      ∙ (passed-front (openChecks p table key sealed) storing opens ∙ (storing-read opens ∙ all .storing))
+      passed-front front (opens ++ stores) (rw (all .two, all .device-ok, all .whole))
+      ∙ (passed-front opens stores opening ∙ (stores-read opening ∙ all .storing))
 
 -- where a profile is read, what is left is putting it
 pub storing-put : (p : Params) (table : List Class) (sealed : List ℕ) (device : Device) (ps : List Profile) (profile : Profile)
@@ -140,25 +154,30 @@ device-of-valid table profile device ok country class =
     let second : contains letters (device .country .second) ≡ true = rw country (rules .second) in
     device-class table device first second ∙ rw class (class-known table (profile .volts) (profile .class) (rules .agrees))
 
--- ---- the package of a valid profile whose signature verifies is accepted where the device is set and putting is
+-- ---- the package of a valid profile whose signature verifies is accepted where the device is set, the store is one and putting is
 
-module _ (p : Params) (table : List Class) (key sig : List ℕ) (profile : Profile) (device : Device) (ps : List Profile) where
+module _ (p : Params) (table : List Class) (key sig country : List ℕ) (class : ℕ) (profile : Profile) (old : List ℕ) where
   pub package-loads : T (valid table profile) → length sig ≡ signatureSize p → verify p key (lineOf profile) sig ≡ 0
-      → deviceOk table device ≡ true → putNumber device profile ps ≡ 0
-      → firstRefusal (loadChecks p table key (sig ++ lineOf profile) device ps) ≡ 0
-  package-loads ok sized verified fine put =
+      → length country ≡ 2 → deviceOk table (deviceOf country class) ≡ true → length old ≡ storeSize
+      → putNumber (deviceOf country class) profile (stored old) ≡ 0
+      → firstRefusal (loadChecks p table key (sig ++ lineOf profile) country class old) ≡ 0
+  package-loads ok sized verified two fine whole put =
       let sealed : List ℕ = sig ++ lineOf profile in
       let line : lineIn p sealed ≡ lineOf profile = line-back p sig (lineOf profile) sized in
       let bounds = line-lengths-hold table profile ok in
-      let long : length sealed ≡ signatureSize p + length (lineOf profile) = length-append sig (lineOf profile) ∙ ap (λ (k : ℕ). k + length (lineOf profile)) sized in
-      load-accepts p table key sealed device ps
+      let long : length sealed ≡ signatureSize p + length (lineOf profile) =
+      length-append sig (lineOf profile) ∙ ap (λ (k : ℕ). k + length (lineOf profile)) sized in
+      let read : readLine table (lineIn p sealed) ≡ done profile = rw line (reads-written table profile ok) in
+      load-accepts p table key sealed country class old
       (record {
+        two = eq-eqb (length country) 2 two;
         device-ok = fine;
+        whole = eq-eqb (length old) storeSize whole;
         sized = rw (
           key-sized p key (lineOf profile) sig verified,
           inside (packageMin p) (packageMax p) (length sealed) (omega (arith, bounds .0)) (omega (arith, bounds .1)),
         );
         verified = rw (line, signature-back p sig (lineOf profile) sized) verified;
-        read = rw (line, reads-written table profile ok) refl;
-        storing = storing-put p table sealed device ps profile (rw line (reads-written table profile ok)) ∙ put;
+        read = rw read refl;
+        storing = storing-put p table sealed (deviceOf country class) (stored old) profile read ∙ put;
       })

@@ -15,17 +15,16 @@ use Rattle.profile.specs.Line.{lineOf, readLine}
 use Rattle.profile.proofs.Theorems.{reads-written, writes-read}
 use Rattle.scheme.specs.Key.{publicKey}
 use Rattle.scheme.specs.Sign.{signatureSize, signature}
-use Rattle.scheme.proofs.Accepted.{accepted, length-signature}
+use Rattle.scheme.proofs.Accepted.{accepted as verifies, length-signature}
 use Rattle.store.specs.declared.Key.{Key}
 use Rattle.store.specs.declared.Device.{Device}
-use Rattle.store.specs.declared.Store.{Store}
-use Rattle.store.specs.declared.PutAnswer.{PutAnswer}
-use Rattle.store.specs.Keys.{keyOf, deviceKey, sameKey, deviceOk}
+use Rattle.store.specs.Keys.{keyOf, deviceOf, deviceKey, sameKey, deviceOk}
 use Rattle.store.specs.Stored.{stored}
-use Rattle.store.specs.Calls.{putNumber, Stores}
+use Rattle.store.specs.Calls.{putNumber, Stores, Taken}
 use Rattle.store.specs.Reached.{Reached}
 use Rattle.store.proofs.KeyLaws.{same-eq, same-refl}
-use Rattle.store.proofs.PutLaws.{lookup-stored, put-accepts, put-passed, takes}
+use Rattle.store.proofs.LookupLaws.{lookup-stored}
+use Rattle.store.proofs.PutLaws.{put-accepts, put-passed, takes}
 use Rattle.store.proofs.Reached.{reached-put}
 use Rattle.package.specs.Package.{packageOf, signatureIn, lineIn, loadChecks}
 use Rattle.package.specs.Entries.{MakesPackage, Loads}
@@ -34,48 +33,50 @@ use Rattle.package.proofs.TheoremLaws.{made-passed, LoadPassed, load-pa
 
 -- ---- what an accepted load says
 
-record Taken (p : Params) (table : List Class) (key sealed : List ℕ) (device : Device) (old : Store) (r : PutAnswer) : Type 0 where
+record Accepted (p : Params) (table : List Class) (key sealed country : List ℕ) (class : ℕ) (old new : List ℕ) : Type 0 where
   profile : Profile
   reads : readLine table (lineIn p sealed) ≡ done profile
-  stores : Stores profile (stored old) (stored (r .store))
-  passes : LoadPassed p table key sealed device (stored old)
-  puts : putNumber device profile (stored old) ≡ 0
+  taken : Taken profile old new
+  passes : LoadPassed p table key sealed country class old
+  puts : putNumber (deviceOf country class) profile (stored old) ≡ 0
 
-taken : (p : Params) (table : List Class) (key sealed : List ℕ) (device : Device) (old : Store) (r : PutAnswer) → Loads p table key sealed device old r
-    → r .answer ≡ 0 → Taken p table key sealed device old r
-taken p table key sealed device old r loads e =
-    let found = loads .taken e in
-    let passes = load-passed p table key sealed device (stored old) (sym (loads .answer) ∙ e) in
-    record {
-      profile = found .0;
-      reads = found .1;
-      stores = found .2;
-      passes = passes;
-      puts = sym (storing-put p table sealed device (stored old) (found .0) (found .1)) ∙ passes .storing;
-    }
+module _ (p : Params) (table : List Class) where
+  accepted : (key sealed country : List ℕ) (class : ℕ) (old : List ℕ) (answer : ℕ) (new : List ℕ)
+      → Loads p table key sealed country class old answer new → answer ≡ 0 → Accepted p table key sealed country class old new
+  accepted key sealed country class old answer new loads e =
+      let found = loads .taken e in
+      let passes = load-passed p table key sealed country class old (sym (loads .answers) ∙ e) in
+      record {
+        profile = found .0;
+        reads = found .1;
+        taken = found .2;
+        passes = passes;
+        puts = sym (storing-put p table sealed (deviceOf country class) (stored old) (found .0) (found .1)) ∙ passes .storing;
+      }
 
-pub nothing-else : (p : Params) (table : List Class) → NothingElse p table
-unfolding signatureIn lineIn
-nothing-else p table key sealed device old r loads e =
-    let t = taken p table key sealed device old r loads e in
-    let written = writes-read table (lineIn p sealed) (t .profile) (t .reads) in
-    let same = same-eq (keyOf (t .profile)) (deviceKey device) (put-passed device (t .profile) (stored old) (t .puts) .0) in (
-      t .profile,
-      t .stores,
-      written .1,
-      ap (λ (k : Key). k .country) same,
-      ap (λ (k : Key). k .class) same,
-      rw (written .0) (sym (take-append-drop (signatureSize p) sealed)),
-      rw (written .0) (t .passes .verified),
-    )
+  pub nothing-else : NothingElse p table
+  unfolding signatureIn lineIn
+  nothing-else key sealed country class old answer new loads e =
+      let t = accepted key sealed country class old answer new loads e in
+      let device : Device = deviceOf country class in
+      let written = writes-read table (lineIn p sealed) (t .profile) (t .reads) in
+      let same = same-eq (keyOf (t .profile)) (deviceKey device) (put-passed device (t .profile) (stored old) (t .puts) .0) in (
+        t .profile,
+        t .taken,
+        written .1,
+        ap (λ (k : Key). k .country) same,
+        ap (λ (k : Key). k .class) same,
+        rw (written .0) (sym (take-append-drop (signatureSize p) sealed)),
+        rw (written .0) (t .passes .verified),
+      )
 
-pub load-reaches : (p : Params) (table : List Class) → LoadReaches p table
-load-reaches p table calls key sealed device old r run loads = (
-  λ e.
-      let t = taken p table key sealed device old r loads e in
-      (t .profile, reached-put calls device (t .profile) old r run (takes e (t .puts) (t .stores))),
-  λ ne. subst (λ (s : Store). Reached calls (stored s)) (sym (loads .kept ne)) run,
-)
+  pub load-reaches : LoadReaches p table
+  load-reaches calls key sealed country class old answer new run loads = (
+    λ e.
+        let t = accepted key sealed country class old answer new loads e in
+        (t .profile, reached-put calls (deviceOf country class) (t .profile) old 0 new run (takes (t .puts) (t .taken))),
+    λ ne. subst (λ (image : List ℕ). Reached calls (stored image)) (sym (loads .kept ne)) run,
+  )
 
 -- ---- a made package
 
@@ -89,24 +90,25 @@ made-whole p table private master salt profile old sealed before size made =
 
 pub made-loads : (p : Params) (table : List Class) → Sound p → MadeLoads p table
 unfolding packageOf
-made-loads p table sound private master salt profile old sealed before size device store r made country class newer room loads =
+made-loads p table sound private master salt profile lent sealed before size country class old answer new made two its-country its-class whole newer room loads =
+    let device : Device = deviceOf country class in
     let sig : List ℕ = signature p private master salt (lineOf profile) in
-    let ok = made-passed p table private master salt profile (length old) (sym (made .answers .answer)) in
+    let ok = made-passed p table private master salt profile (length lent) (sym (made .answers .answer)) in
     let sized = length-signature p sound private master salt (lineOf profile) (signatureSize p) (ok .1) in
-    let whole : take size sealed ≡ sig ++ lineOf profile = made-whole p table private master salt profile old sealed before size made in
-    let same : keyOf profile ≡ deviceKey device = λ i. record { country = sym country i; class = sym class i } in
+    let written : take size sealed ≡ sig ++ lineOf profile = made-whole p table private master salt profile lent sealed before size made in
+    let same : keyOf profile ≡ deviceKey device = λ i. record { country = sym its-country i; class = sym its-class i } in
     let its : sameKey (keyOf profile) (deviceKey device) ≡ true = rw same (same-refl (deviceKey device)) in
-    let fine : deviceOk table device ≡ true = device-of-valid table profile device (ok .0) country class in
-    let passes : firstRefusal (loadChecks p table (publicKey p private) (take size sealed) device (stored store)) ≡ 0 =
-    rw whole
-    (package-loads p table (publicKey p private) sig profile device (stored store) (ok .0) sized
-    (accepted p sound private master salt (lineOf profile) (signatureSize p) (ok .1))
-    fine
-    (put-accepts device profile (stored store) its newer room)) in
-    let zero : r .answer ≡ 0 = loads .answer ∙ passes in
+    let fine : deviceOk table device ≡ true = device-of-valid table profile device (ok .0) its-country its-class in
+    let passes : firstRefusal (loadChecks p table (publicKey p private) (take size sealed) country class old) ≡ 0 =
+    rw written
+    (package-loads p table (publicKey p private) sig country class profile old (ok .0) sized
+    (verifies p sound private master salt (lineOf profile) (signatureSize p) (ok .1))
+    two fine whole
+    (put-accepts device profile (stored old) its newer room)) in
+    let zero : answer ≡ 0 = loads .answers ∙ passes in
     let found = loads .taken zero in
     let read : readLine table (lineIn p (take size sealed)) ≡ done profile =
-    rw (whole, line-back p sig (lineOf profile) sized) (reads-written table profile (ok .0)) in
+    rw (written, line-back p sig (lineOf profile) sized) (reads-written table profile (ok .0)) in
     let this : found .0 ≡ profile = cc in
-    let stores : Stores profile (stored store) (stored (r .store)) = rw this at (found .2) in
-    (zero, lookup-stored table device profile (stored store) (stored (r .store)) stores fine its)
+    let stores : Stores profile (stored old) (stored new) = rw this at (found .2 .stores) in
+    (zero, lookup-stored table device profile (stored old) (stored new) stores fine its)

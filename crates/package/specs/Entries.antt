@@ -1,25 +1,17 @@
 -- What making, opening and loading a package answer, and the final content of what was lent.
 -- Assumes nothing.
 use mathlib.Core.Path.{_≡_}
-use mathlib.Core.List.{List, [], _∷_, _++_}
-use Prim.Native.Nat.{ℕ, _+_, _*_, _≤_}
-use lib.Dec.{eqb}
+use mathlib.Core.List.{List}
+use Prim.Native.Nat.{ℕ, _≤_}
 use lib.ListN.{length}
-use Rattle.outcome.specs.Answer.{bad-size, bad-device, Check, _unless_, firstRefusal, AnswersFront}
+use Rattle.outcome.specs.Answer.{firstRefusal, AnswersFront}
 use Rattle.parameters.specs.declared.Params.{Params}
 use Rattle.profile.specs.declared.Profile.{Profile}
 use Rattle.outcome.specs.Result.{done, numberIn, valuesIn}
 use Rattle.profile.specs.Rules.{Class}
 use Rattle.profile.specs.Line.{longest, lineOf, readLine}
 use Rattle.scheme.specs.Sign.{signatureSize, signChecks}
-use Rattle.store.specs.declared.Device.{Device}
-use Rattle.store.specs.declared.Store.{Store}
-use Rattle.store.specs.declared.PutAnswer.{PutAnswer}
-use Rattle.store.specs.Keys.{deviceOk}
-use Rattle.store.specs.Stored.{stored}
-use Rattle.store.specs.Calls.{Stores}
-use Rattle.image.specs.Image.{storeSize, storeOf, StoreWritten}
-use Rattle.image.specs.Entries.{deviceOf}
+use Rattle.store.specs.Calls.{Taken}
 use Rattle.package.specs.declared.load.Opened.{Opened}
 use Rattle.package.specs.Package.{packageMax, packageOf, makeChecks, makeLineChecks, lineIn, openNumber, openValues, opened, loadChecks}
 
@@ -52,24 +44,9 @@ module _ (p : Params) where
 
   -- ---- loading
 
-  -- With the answer 0 the profile of the package's line is stored; which slot it takes is the program's choice, and `Stores` says what
-  -- every choice has in common. After a refusal the store is the old one in all its parts.
-  pub record Loads (table : List Class) (key sealed : List ℕ) (device : Device) (old : Store) (r : PutAnswer) : Type 0 where
-    pub answer : r .answer ≡ firstRefusal (loadChecks p table key sealed device (stored old))
-    pub taken : r .answer ≡ 0 → (profile : Profile) × (readLine table (lineIn p sealed) ≡ done profile) × Stores profile (stored old) (stored (r .store))
-    pub kept : (r .answer ≡ 0 → ⊥) → r .store ≡ old
-
-  -- over an image: a country of another length than two is no setting; then the image's size
-  abbrev pub loadImageChecks : List Class → List ℕ → List ℕ → List ℕ → ℕ → List ℕ → List Check
-  loadImageChecks table key sealed country class image =
-      (bad-device unless eqb (length country) 2
-      ∷ bad-device unless deviceOk table (deviceOf country class)
-      ∷ bad-size unless eqb (length image) storeSize
-      ∷ [])
-      ++ loadChecks p table key sealed (deviceOf country class) (stored (storeOf image))
-
-  -- With the answer 0 the image is that of a store that `load` may return, and means it; after a refusal the image is as it was.
-  pub record LoadsImage (table : List Class) (key sealed country : List ℕ) (class : ℕ) (old : List ℕ) (answer : ℕ) (new : List ℕ) : Type 0 where
-    pub answers : answer ≡ firstRefusal (loadImageChecks table key sealed country class old)
-    pub taken : answer ≡ 0 → (s : Store) × Loads table key sealed (deviceOf country class) (storeOf old) (record { answer = 0; store = s }) × StoreWritten s new
+  -- With the answer 0 the profile of the package's line stands in one slot of the store's image, whichever the program chose, and
+  -- every other byte is as it was; after a refusal all bytes are.
+  pub record Loads (table : List Class) (key sealed country : List ℕ) (class : ℕ) (old : List ℕ) (answer : ℕ) (new : List ℕ) : Type 0 where
+    pub answers : answer ≡ firstRefusal (loadChecks p table key sealed country class old)
+    pub taken : answer ≡ 0 → (profile : Profile) × (readLine table (lineIn p sealed) ≡ done profile) × Taken profile old new
     pub kept : (answer ≡ 0 → ⊥) → new ≡ old

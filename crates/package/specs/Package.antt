@@ -16,7 +16,8 @@ use Rattle.scheme.specs.Key.{keySize}
 use Rattle.scheme.specs.Sign.{signatureSize, signChecks, signature}
 use Rattle.scheme.specs.Verify.{verifyChecks}
 use Rattle.store.specs.declared.Device.{Device}
-use Rattle.store.specs.Keys.{deviceOk}
+use Rattle.store.specs.Keys.{deviceOf, deviceOk}
+use Rattle.store.specs.Stored.{storeSize, stored}
 use Rattle.store.specs.Calls.{after, putChecks}
 use Rattle.package.specs.declared.load.Opened.{Opened}
 use Rattle.package.specs.declared.load.Opened.the-variants as opening
@@ -98,8 +99,10 @@ module _ (p : Params) where
 
   -- ---- loading
 
-  -- The device; opening; then storing what was opened among the profiles ps.
-  unfoldable pub loadChecks : List Class → List ℕ → List ℕ → Device → List Profile → List Check
-  loadChecks table key sealed device ps =
-      bad-device unless deviceOk table device
-      ∷ (openChecks table key sealed ++ storeChecks device ps (opened table key sealed))
+  -- the device that is set to this country and class; the size of the store's image; opening; then storing what was opened
+  unfoldable pub loadChecks : List Class → List ℕ → List ℕ → List ℕ → ℕ → List ℕ → List Check
+  loadChecks table key sealed country class old =
+      bad-device unless eqb (length country) 2
+      ∷ bad-device unless deviceOk table (deviceOf country class)
+      ∷ bad-size unless eqb (length old) storeSize
+      ∷ (openChecks table key sealed ++ storeChecks (deviceOf country class) (stored old) (opened table key sealed))

@@ -14,39 +14,38 @@ use Rattle.profile.specs.Rules.{Class, valid}
 use Rattle.profile.specs.Line.{lineOf}
 use Rattle.scheme.specs.Key.{publicKey}
 use Rattle.scheme.specs.Verify.{verify}
-use Rattle.store.specs.declared.Device.{Device}
-use Rattle.store.specs.declared.Store.{Store}
-use Rattle.store.specs.declared.PutAnswer.{PutAnswer}
-use Rattle.store.specs.Keys.{keyOf}
-use Rattle.store.specs.Stored.{capacity, stored, find, isStored}
-use Rattle.store.specs.Calls.{lookupIn, newer, Stores}
+use Rattle.store.specs.Keys.{keyOf, deviceOf}
+use Rattle.store.specs.Stored.{capacity, storeSize, stored, find, isStored}
+use Rattle.store.specs.Calls.{lookupIn, newer, Taken}
 use Rattle.store.specs.Reached.{Call, Reached}
 use Rattle.package.specs.Package.{signatureIn}
 use Rattle.package.specs.Entries.{MakesPackage, Loads}
 
 module _ (p : Params) (table : List Class) where
   -- A made package loads: where package making answered 0 for a profile, loading what it wrote under the key that the rules give for
-  -- the private seed, on a device of the profile's country and class, answers 0 in every store, reached or not, that holds no
-  -- profile of the pair or one with a smaller serial, and holds the pair or has room; and looking up the pair then gives the profile.
+  -- the private seed, on a device that is set to the profile's country and class, answers 0 in every store, reached or not, that
+  -- holds no profile of the pair or one with a smaller serial, and holds the pair or has room; and looking up the pair then gives
+  -- the profile.
   abbrev pub MadeLoads : Type 0
   MadeLoads =
-      (private master salt : List ℕ) (profile : Profile) (old sealed : List ℕ) (before size : ℕ)
-      (device : Device) (store : Store) (r : PutAnswer)
-      → MakesPackage p table private master salt profile old before 0 sealed size
-      → device .country ≡ profile .country → device .class ≡ profile .class
-      → newer profile (find (keyOf profile) (stored store)) ≡ true
-      → (isStored (keyOf profile) (stored store) || ltb (length (stored store)) capacity) ≡ true
-      → Loads p table (publicKey p private) (take size sealed) device store r
-      → (r .answer ≡ 0) × (lookupIn table device (stored (r .store)) ≡ done profile)
+      (private master salt : List ℕ) (profile : Profile) (lent sealed : List ℕ) (before size : ℕ)
+      (country : List ℕ) (class : ℕ) (old : List ℕ) (answer : ℕ) (new : List ℕ)
+      → MakesPackage p table private master salt profile lent before 0 sealed size
+      → length country ≡ 2 → deviceOf country class .country ≡ profile .country → class ≡ profile .class
+      → length old ≡ storeSize
+      → newer profile (find (keyOf profile) (stored old)) ≡ true
+      → (isStored (keyOf profile) (stored old) || ltb (length (stored old)) capacity) ≡ true
+      → Loads p table (publicKey p private) (take size sealed) country class old answer new
+      → (answer ≡ 0) × (lookupIn table (deviceOf country class) (stored new) ≡ done profile)
 
   -- Nothing else gets in: where loading answers 0, what is stored is a valid profile of this device's own country and class, and the
   -- verifier answers 0 for the package's signature over exactly the line of what is stored.
   abbrev pub NothingElse : Type 0
   NothingElse =
-      (key sealed : List ℕ) (device : Device) (old : Store) (r : PutAnswer)
-      → Loads p table key sealed device old r → r .answer ≡ 0
-      → (profile : Profile) × Stores profile (stored old) (stored (r .store)) × T (valid table profile)
-      × (profile .country ≡ device .country) × (profile .class ≡ device .class)
+      (key sealed country : List ℕ) (class : ℕ) (old : List ℕ) (answer : ℕ) (new : List ℕ)
+      → Loads p table key sealed country class old answer new → answer ≡ 0
+      → (profile : Profile) × Taken profile old new × T (valid table profile)
+      × (profile .country ≡ deviceOf country class .country) × (profile .class ≡ class)
       × (sealed ≡ signatureIn p sealed ++ lineOf profile)
       × (verify p key (lineOf profile) (signatureIn p sealed) ≡ 0)
 
@@ -54,7 +53,7 @@ module _ (p : Params) (table : List Class) where
   -- a call of `put` for this device and the profile of the package's line, and a refused one is none.
   abbrev pub LoadReaches : Type 0
   LoadReaches =
-      (calls : List Call) (key sealed : List ℕ) (device : Device) (old : Store) (r : PutAnswer)
-      → Reached calls (stored old) → Loads p table key sealed device old r
-      → (r .answer ≡ 0 → (profile : Profile) × Reached (calls ++ (record { device = device; profile = profile } ∷ [])) (stored (r .store)))
-      × ((r .answer ≡ 0 → ⊥) → Reached calls (stored (r .store)))
+      (calls : List Call) (key sealed country : List ℕ) (class : ℕ) (old : List ℕ) (answer : ℕ) (new : List ℕ)
+      → Reached calls (stored old) → Loads p table key sealed country class old answer new
+      → (answer ≡ 0 → (profile : Profile) × Reached (calls ++ (record { device = deviceOf country class; profile = profile } ∷ [])) (stored new))
+      × ((answer ≡ 0 → ⊥) → Reached calls (stored new))

@@ -12,7 +12,7 @@ use Rattle.outcome.specs.Answer.{pick}
 use Rattle.profile.specs.declared.Profile.{Profile}
 use Rattle.profile.specs.Rules.{Class}
 use Rattle.profile.specs.Line.{lineFeed, readLine}
-use Rattle.store.specs.Reached.{Call, Run, Reached}
+use Rattle.store.specs.Reached.{Call, Run}
 use Rattle.preview.specs.Preview.{cutAfter, cut, LineAt, callsOf, callsIn}
 
 -- ---- the next line
@@ -77,22 +77,25 @@ run-then : (cs ds : List Call) (ps qs rs : List Profile) → Run ps cs qs → Ru
 run-then [] ds ps qs rs a b = subst (λ (l : List Profile). Run l ds rs) a b
 run-then (c ∷ cs) ds ps qs rs a b = (a .0, a .1, run-then cs ds (a .0) qs rs (a .2) b)
 
--- the lines before a place left ps: what the lines from there on make of ps, all lines make of nothing
-abbrev pub Left : List Class → List ℕ → ℕ → List Profile → Type 0
-Left table input at ps = (rs : List Profile) → Run ps (callsIn table (cut (drop at input))) rs → Reached (callsIn table (cut input)) rs
+-- before the first line qs were stored, and the lines before a place left ps: what the lines from there on make of ps, all lines
+-- make of qs
+abbrev pub Left : List Class → List ℕ → List Profile → ℕ → List Profile → Type 0
+Left table input qs at ps =
+    (rs : List Profile) → Run ps (callsIn table (cut (drop at input))) rs → Run qs (callsIn table (cut input)) rs
 
-pub left-all : (table : List Class) (input : List ℕ) (ps : List Profile) → ps ≡ [] → Left table input 0 ps
-left-all table input ps e rs run = subst (λ (l : List Profile). Run l (callsIn table (cut input)) rs) e run
+pub left-all : (table : List Class) (input : List ℕ) (qs : List Profile) → Left table input qs 0 qs
+left-all table input qs rs run = run
 
-module _ (table : List Class) (input : List ℕ) (at end : ℕ) (found : LineAt input at end) (ps : List Profile) (left : Left table input at ps) where
+module _ (table : List Class) (input : List ℕ) (at end : ℕ) (found : LineAt input at end) (first ps : List Profile)
+    (left : Left table input first at ps) where
   pub left-fewer : at < end → (qs : List Profile) → Run ps (callsOf (readLine table (take (end - at) (drop at input)))) qs
-      → Left table input end qs
+      → Left table input first end qs
   unfolding callsIn
   left-fewer h qs run rs others =
       left rs
       (rw (found .line h)
       (run-then (callsOf (readLine table (take (end - at) (drop at input)))) (callsIn table (cut (drop end input))) ps qs rs run others))
 
-  pub left-none : end ≤ at → Reached (callsIn table (cut input)) ps
+  pub left-none : end ≤ at → Run first (callsIn table (cut input)) ps
   unfolding callsIn
   left-none h = left ps (rw (found .unfinished h) refl)

@@ -5,18 +5,19 @@ use mathlib.Core.List.{List, [], _∷_, _++_, append-assoc, append-nil}
 use Prim.Native.Nat.{ℕ, _+_, _-_, _≤_, _<_}
 use native.Mathlib.Numerals.{add-one}
 use native.Mathlib.Omega.{arith}
-use lib.ListN.{length, getD, set, take, drop}
-use lib.Seq.{sets-eq, take-suc, drop-drop}
+use lib.ListN.{length, set, take, drop}
+use lib.Seq.{sets-eq, take-suc, take-all, drop-drop}
 use Rattle.outcome.specs.Answer.{pick}
 use Rattle.decimal.specs.Decimal.{decimal, lastDigits, largest, Appended}
 use Rattle.decimal.proofs.Decimal.{length-mono}
 use Rattle.decimal.proofs.Stores.{sets-front, one-byte, then}
 use Rattle.profile.specs.declared.Profile.{Profile}
 use Rattle.profile.specs.Line.{lineFeed}
-use Rattle.store.specs.declared.Slot.{Slot}
-use Rattle.store.specs.Stored.{profilesIn}
+use Rattle.image.specs.Image.{profileOf}
+use Rattle.store.specs.Stored.{capacity, Slot, slotOf, slotsOf, slotBytes, profilesIn, stored}
 use Rattle.store.proofs.SlotLaws.{unset}
-use Rattle.preview.specs.Preview.{keyBytes, row, rows}
+use Rattle.store.proofs.PlaceLaws.{slots-length, slot-at}
+use Rattle.preview.specs.Preview.{keyBytes, row, rows, usedIn}
 
 -- ---- bytes copied into a part
 
@@ -57,13 +58,14 @@ module _ (p : Profile) where
 
 -- ---- the rows of slots
 
-pub no-row : (s : Slot) → s .used ≡ false → rows (profilesIn (s ∷ [])) ≡ []
-unfolding rows profilesIn
-no-row s e = rw e
+module _ (slot : List ℕ) where
+  pub no-row : slotOf slot .used ≡ false → rows (usedIn slot) ≡ []
+  unfolding rows profilesIn
+  no-row e = rw e
 
-pub one-row : (s : Slot) → s .used ≡ true → rows (profilesIn (s ∷ [])) ≡ row (s .profile)
-unfolding rows profilesIn
-one-row s e = rw e (append-nil (row (s .profile)))
+  pub one-row : slotOf slot .used ≡ true → rows (usedIn slot) ≡ row (profileOf slot)
+  unfolding rows profilesIn
+  one-row e = rw e (append-nil (row (profileOf slot)))
 
 profiles-append : (ss ts : List Slot) → profilesIn (ss ++ ts) ≡ profilesIn ss ++ profilesIn ts
 unfolding profilesIn
@@ -81,11 +83,23 @@ unfolding rows
 rows-append [] qs = refl
 rows-append (p ∷ ps) qs = ap (λ (l : List ℕ). row p ++ l) (rows-append ps qs) ∙ sym (append-assoc (row p) (rows ps) (rows qs))
 
--- the rows of the first slots, when a slot's are written after those before it
-pub rows-more : (ss : List Slot) (i : ℕ) → i < length ss
-    → rows (profilesIn (take i ss)) ++ rows (profilesIn (getD ss i unset ∷ [])) ≡ rows (profilesIn (take (i + 1) ss))
-rows-more ss i h =
-    sym
-    (ap (λ (l : List Slot). rows (profilesIn l)) (rw (add-one i) (take-suc ss i unset h))
-    ∙ ap rows (profiles-append (take i ss) (getD ss i unset ∷ []))
-    ∙ rows-append (profilesIn (take i ss)) (profilesIn (getD ss i unset ∷ [])))
+-- the rows of the first slots of an image, when a slot's are written after those before it
+abbrev pub rowsBefore : List ℕ → ℕ → List ℕ
+rowsBefore image i = rows (profilesIn (take i (slotsOf capacity image)))
+
+module _ (image : List ℕ) (i : ℕ) where
+  pub rows-more : i < capacity → rowsBefore image i ++ rows (usedIn (slotBytes i image)) ≡ rowsBefore image (i + 1)
+  rows-more h =
+      let ss : List Slot = slotsOf capacity image in
+      let slot : Slot = slotOf (slotBytes i image) in
+      let size : length ss ≡ capacity = slots-length capacity image in
+      let next : take (i + 1) ss ≡ take i ss ++ (slot ∷ []) =
+      rw (add-one i) (take-suc ss i unset (omega arith)) ∙ ap (λ (s : Slot). take i ss ++ (s ∷ [])) (slot-at capacity i image h) in
+      sym
+      (ap (λ (l : List Slot). rows (profilesIn l)) next
+      ∙ (ap rows (profiles-append (take i ss) (slot ∷ [])) ∙ rows-append (profilesIn (take i ss)) (profilesIn (slot ∷ []))))
+
+  pub rows-all : capacity ≤ i → rowsBefore image i ≡ rows (stored image)
+  rows-all h =
+      let size : length (slotsOf capacity image) ≡ capacity = slots-length capacity image in
+      ap (λ (l : List Slot). rows (profilesIn l)) (take-all i (slotsOf capacity image) (omega arith))

@@ -12,7 +12,7 @@ use Rattle.outcome.specs.Result.{Result, done, refused, answer, numberIn}
 use Rattle.profile.specs.Rules.{Class}
 use Rattle.profile.specs.Line.{comma, lineFeed, readLine}
 use Rattle.store.specs.declared.Device.{Device}
-use Rattle.store.specs.Stored.{capacity, Distinct}
+use Rattle.store.specs.Stored.{capacity, slotOf, profilesIn, Distinct}
 use Rattle.store.specs.Calls.{Perm}
 use Rattle.store.specs.Reached.{Call, model}
 use Rattle.preview.specs.declared.Previewed.{Previewed}
@@ -94,6 +94,10 @@ unfoldable pub rows : List Profile → List ℕ
 rows [] = []
 rows (p ∷ ps) = row p ++ rows ps
 
+-- the profile of a slot of a store's image, where the slot is used
+abbrev pub usedIn : List ℕ → List Profile
+usedIn bytes = profilesIn (slotOf bytes ∷ [])
+
 -- The order of the rows is the program's choice. Every choice has in common the header, and after it a row for each of these
 -- profiles, each once, and nothing else.
 pub record Lists (ps : List Profile) (text : List ℕ) : Type 0 where
@@ -108,7 +112,7 @@ pub record Shows (table : List Class) (input text : List ℕ) : Type 0 where
 
 -- ---- the answer
 
--- how many bytes are lent: the header and 16 rows have room
+-- how many bytes are lent: the header and as many rows as a store has slots have room
 abbrev pub lentSize : ℕ
 lentSize = 277
 

@@ -1,26 +1,35 @@
 // The preview: what a device would hold after the lines of an input, each stored as if it were signed.
 use buffers::copy;
 use decimal::write_decimal;
+use image::PROFILE_SIZE;
+use image::read::read_profile;
 use profile::Profile;
 use profile::ReadLine;
 use profile::read_line;
+use store::CAPACITY;
 use store::Device;
-use store::Slot;
-use store::Store;
-use store::empty;
+use store::STORE_SIZE;
+use store::is_used;
 use store::put;
-ghost use mathlib.Core.List.{[], _∷_};
+ghost use mathlib.Core.Path.{_≡_};
 ghost use Prim.Native.Nat.{_+_, _*_, _≤_};
 ghost use lib.ListN.{length};
 ghost use Rattle.decimal.specs.Decimal.{Room, Appended};
 ghost use Rattle.outcome.specs.Result.{done};
 ghost use Rattle.profile.specs.Rules.{classes};
 ghost use Rattle.profile.specs.Line.{readLine};
-ghost use Rattle.store.specs.Stored.{capacity, profilesIn, stored};
-ghost use Rattle.store.specs.Reached.{Run, Reached};
-ghost use Rattle.preview.specs.Preview.{cut, callsOf, callsIn, row, rows, longestRow, LineAt, Previews};
+ghost use Rattle.image.specs.Image.{profileSize};
+ghost use Rattle.store.specs.Stored.{capacity, storeSize, stored};
+ghost use Rattle.store.specs.Reached.{Run};
+ghost use Rattle.preview.specs.Preview.{cut, callsOf, callsIn, row, rows, usedIn, longestRow, LineAt, Previews};
 
-// The listing is written, and is this long; or the buffer is not 277 bytes long.
+// How many bytes are lent for the listing: the header and a row for each slot have room.
+pub const LENT_SIZE: usize = 277;
+
+// A longer input is not looked at.
+pub const LONGEST_INPUT: usize = 65536;
+
+// The listing is written, and is this long; or another number of bytes is lent than `LENT_SIZE`.
 pub enum Previewed {
     Length(usize),
     BadSize,
@@ -43,8 +52,9 @@ fn line_end(input: &[u8], start: usize) -> usize
 }
 
 // Stores a profile as a device of its own country and class does.
-fn hold(store: Store, profile: Profile) -> Store
-    ensures { λ r. ⌜ Run (stored store) (callsOf (done profile)) (stored r) ⌝ }
+fn hold(store: &mut [u8], profile: Profile)
+    requires { ⌜ length (now store) ≡ storeSize ⌝ }
+    ensures { λ r. ⌜ Run (stored (now (store .entry))) (callsOf (done profile)) (stored (now (store .exit))) ⌝ }
 {
     let country = profile.country;
     let class = profile.class;
@@ -52,36 +62,35 @@ fn hold(store: Store, profile: Profile) -> Store
         country: country,
         class: class as u32,
     };
-    let answer = put(store, profile, device);
-    answer.store
+    put(store, profile, device);
 }
 
 // A line that is refused changes nothing.
-fn hold_line(store: Store, line: &[u8]) -> Store
-    ensures { λ r. ⌜ Run (stored store) (callsOf (readLine classes (now (line .entry)))) (stored r) ⌝ }
+fn hold_line(store: &mut [u8], line: &[u8])
+    requires { ⌜ length (now store) ≡ storeSize ⌝ }
+    ensures { λ r.
+        ⌜ Run (stored (now (store .entry))) (callsOf (readLine classes (now (line .entry)))) (stored (now (store .exit))) ⌝ }
 {
-    let read = read_line(line);
-    match read {
+    match read_line(line) {
         ReadLine::Read(p) => hold(store, p),
-        ReadLine::BadSize => store,
-        ReadLine::BadLine => store,
+        ReadLine::BadSize => {}
+        ReadLine::BadLine => {}
     }
 }
 
-// The store after all lines of the input.
-fn hold_lines(input: &[u8]) -> Store
-    ensures { λ r. ⌜ Reached (callsIn classes (cut (now (input .entry)))) (stored r) ⌝ }
+// Stores the profiles of all lines of the input, in their order.
+fn hold_lines(store: &mut [u8], input: &[u8])
+    requires { ⌜ length (now store) ≡ storeSize ⌝ }
+    ensures { λ r.
+        ⌜ Run (stored (now (store .entry))) (callsIn classes (cut (now (input .entry)))) (stored (now (store .exit))) ⌝ }
 {
-    let mut store = empty();
     let mut at = 0;
     let mut end = line_end(input, 0);
     while at < end {
-        let next = hold_line(store, &input[at..end]);
-        store = next;
+        hold_line(store, &input[at..end]);
         at = end;
         end = line_end(input, at);
     }
-    store
 }
 
 // Copies a text to the front of the lent bytes, and returns its length.
@@ -109,45 +118,48 @@ fn put_row(p: Profile, out: &mut [u8], at: usize) -> usize
 }
 
 // The row of a slot that is used.
-fn put_slot(slot: Slot, out: &mut [u8], at: usize) -> usize
+fn put_slot(slot: &[u8], out: &mut [u8], at: usize) -> usize
+    requires { ⌜ length (now slot) ≡ profileSize ⌝ }
     requires { ⌜ at + longestRow ≤ length (now out) ⌝ }
-    ensures { λ r. ⌜ Appended (now (out .entry)) at (rows (profilesIn (slot ∷ []))) (now (out .exit)) r ⌝ }
+    ensures { λ r. ⌜ Appended (now (out .entry)) at (rows (usedIn (now (slot .entry)))) (now (out .exit)) r ⌝ }
     ensures within { λ r. ⌜ r ≤ at + longestRow ⌝ }
 {
-    if !slot.used {
+    if !is_used(slot) {
         return at;
     }
-    let profile = slot.profile;
-    put_row(profile, out, at)
+    put_row(read_profile(slot), out, at)
 }
 
 // The rows of all slots, in the order of the slots.
-fn put_rows(store: Store, out: &mut [u8], at: usize) -> usize
+fn put_rows(store: &[u8], out: &mut [u8], at: usize) -> usize
+    requires { ⌜ length (now store) ≡ storeSize ⌝ }
     requires { ⌜ at + capacity * longestRow ≤ length (now out) ⌝ }
-    ensures { λ r. ⌜ Appended (now (out .entry)) at (rows (stored store)) (now (out .exit)) r ⌝ }
+    ensures { λ r. ⌜ Appended (now (out .entry)) at (rows (stored (now (store .entry)))) (now (out .exit)) r ⌝ }
     ensures within { λ r. ⌜ r ≤ at + capacity * longestRow ⌝ }
 {
     let mut next = at;
     let mut i: usize = 0;
-    while i < 16 {
-        let slot = store.slots[i];
-        next = put_slot(slot, out, next);
+    while i < CAPACITY {
+        let start = PROFILE_SIZE * i;
+        let end = start + PROFILE_SIZE;
+        next = put_slot(&store[start..end], out, next);
         i += 1;
     }
     next
 }
 
-// Writes the listing at the front of 277 lent bytes.
+// Writes the listing at the front of the lent bytes. The store that the lines fill is a local one, empty at first.
 pub fn preview(input: &[u8], out: &mut [u8]) -> Previewed
     ensures { λ r. ⌜ Previews classes (now (input .entry)) (now (out .entry)) r (now (out .exit)) ⌝ }
 {
-    if out.len() != 277 {
+    if out.len() != LENT_SIZE {
         return Previewed::BadSize;
     }
-    if input.len() > 65536 {
+    if input.len() > LONGEST_INPUT {
         return Previewed::Length(put_text(b"too long\n", out));
     }
-    let store = hold_lines(input);
+    let mut store = [0u8; STORE_SIZE];
+    hold_lines(&mut store, input);
     let at = put_text(b"COUNTRY,CLASS,SERIAL\n", out);
-    Previewed::Length(put_rows(store, out, at))
+    Previewed::Length(put_rows(&store, out, at))
 }

@@ -5,14 +5,17 @@ use borrow.Author.Needs.{needs}
 use Rattle.preview.proofs.hold.Statement.{statement}
 use Rattle.preview.proofs.hold.Tie as tie
 
-cast-t7 : tie.Need-cast-t7
-cast-t7 c = search needs
+cast-t6 : tie.Need-cast-t6
+cast-t6 c = search needs
 
 put-requires : tie.Need-put-requires
 put-requires c κs = search needs
 
+same-length : tie.Need-same-length
+same-length c = search needs
+
 returns : tie.Need-returns
-returns c = (_, puts-step _ _ _ _ (c .before .put .ensures), refl)
+returns c = (_, puts-step _ _ _ _ _ (c .before .before .put .ensures), refl)
 
 pub hold-spec : {M : Type 1} → statement M
-hold-spec = tie.close (tie.spec cast-t7 put-requires returns)
+hold-spec = tie.close (tie.spec cast-t6 put-requires same-length returns)

@@ -10,8 +10,8 @@ use Rattle.preview.proofs.hold_line.Tie as tie
 read-line-requires : tie.Need-read-line-requires
 read-line-requires c κs = search needs
 
-enum-known-read : tie.Need-enum-known-read
-enum-known-read c = search needs
+enum-known-p : tie.Need-enum-known-p
+enum-known-p c = search needs
 
 hold-requires : tie.Need-hold-requires
 hold-requires c κs = search needs
@@ -22,36 +22,42 @@ enum-told c = search needs
 enum-told-2 : tie.Need-enum-told-2
 enum-told-2 c = search needs
 
+same-length : tie.Need-same-length
+same-length c = search needs
+
 returns : tie.Need-returns
 returns c =
-    let read = c .before .before .before .before .read-line in
-    let line = c .before .before .before .before .before .before .args .line .now in
-    let done-with : readLine classes line ≡ readAnswer (Read _) = sym (read .ensures) ∙ ap readAnswer (c .before .before .read .given .1) in
-    rw done-with (c .hold .ensures)
+    let held = c .before .before in
+    let found = held .before .before .before in
+    let read = found .before .before in
+    let line = read .before .before .before .args .line .now in
+    let done-with : readLine classes line ≡ readAnswer (Read _) = sym (read .read-line .ensures) ∙ ap readAnswer (found .p .given .1) in
+    rw done-with (held .hold .ensures)
 
 returns-2 : tie.Need-returns-2
 returns-2 c =
-    let read = c .before .before .read-line in
-    let line = c .before .before .before .before .args .line .now in
-    let size : readLine classes line ≡ readAnswer BadSize = sym (read .ensures) ∙ ap readAnswer (c .enum-told .given .1) in
-    rw size refl
+    let read = c .before .before in
+    let line = read .before .before .before .args .line .now in
+    let told : readLine classes line ≡ readAnswer BadSize = sym (read .read-line .ensures) ∙ ap readAnswer (c .enum-told .given .1) in
+    rw told refl
 
 returns-3 : tie.Need-returns-3
 returns-3 c =
-    let read = c .before .before .read-line in
-    let line = c .before .before .before .before .args .line .now in
-    let broken : readLine classes line ≡ readAnswer BadLine = sym (read .ensures) ∙ ap readAnswer (c .enum-told2 .given .1) in
-    rw broken refl
+    let read = c .before .before in
+    let line = read .before .before .before .args .line .now in
+    let told : readLine classes line ≡ readAnswer BadLine = sym (read .read-line .ensures) ∙ ap readAnswer (c .enum-told2 .given .1) in
+    rw told refl
 
 pub hold-line-spec : {M : Type 1} → statement M
 hold-line-spec =
     tie.close
     (tie.spec
     read-line-requires
-    enum-known-read
+    enum-known-p
     hold-requires
     enum-told
     enum-told-2
+    same-length
     returns
     returns-2
     returns-3)

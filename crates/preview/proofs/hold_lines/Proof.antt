@@ -1,9 +1,10 @@
 -- `preview::hold_lines` meets its contract: the lines that were passed are stored, and a line is next or none is. Assumes nothing.
+use mathlib.Core.Path.{_≡_}
 use Prim.Native.Nat.{_-_}
 use native.Mathlib.Omega.{arith}
 use lib.ListN.{length}
 use Rattle.profile.specs.Rules.{classes}
-use Rattle.store.specs.Stored.{stored}
+use Rattle.store.specs.Stored.{storeSize, stored}
 use Rattle.preview.specs.Preview.{LineAt}
 use Rattle.preview.proofs.CutLaws.{Left, left-all, left-fewer, left-none}
 use borrow.Author.Needs.{needs}
@@ -11,22 +12,19 @@ use Rattle.preview.proofs.hold_lines.Statement.{statement}
 use Rattle.preview.proofs.hold_lines.Tie as tie
 
 abbrev Inv-loop : tie.InvT-loop
-Inv-loop input store₀ at₀ end₀ store at end = LineAt input at end × Left classes input at (stored store)
+Inv-loop store₀ input at₀ end₀ store at end =
+    LineAt input at end × Left classes input (stored store₀) at (stored store) × (length store ≡ storeSize)
 
 abbrev μ-loop : tie.MeasureT-loop
-μ-loop input store₀ at₀ end₀ store at end = length input - at
-
-empty-requires : tie.Need-empty-requires Inv-loop μ-loop
-empty-requires c κs = search needs
+μ-loop store₀ input at₀ end₀ store at end = length input - at
 
 line-end-requires : tie.Need-line-end-requires Inv-loop μ-loop
 line-end-requires c κs = omega arith
 
 loop-holds : tie.Need-loop-holds Inv-loop μ-loop
 loop-holds c =
-    let input = c .before .before .before .args .input .now in
-    let empty = c .before .empty in
-    (c .line-end .ensures, left-all classes input (stored (empty .result)) (empty .ensures))
+    let start = c .before .before .before in
+    (c .line-end .ensures, left-all classes (start .args .input .now) (stored (start .args .store .now)), start .pre)
 
 sub-hold-line : tie.Need-sub-hold-line Inv-loop μ-loop
 sub-hold-line c = search needs
@@ -35,34 +33,38 @@ part-hold-line-start : tie.Need-part-hold-line-start Inv-loop μ-loop
 part-hold-line-start c = search needs
 
 part-hold-line-end : tie.Need-part-hold-line-end Inv-loop μ-loop
-part-hold-line-end c = omega (arith, c .before .loop .inv .0 .within)
+part-hold-line-end c = omega (arith, c .before .before .loop .inv .0 .within)
 
 hold-line-requires : tie.Need-hold-line-requires Inv-loop μ-loop
 hold-line-requires c κs = search needs
 
 line-end-requires-2 : tie.Need-line-end-requires-2 Inv-loop μ-loop
-line-end-requires-2 c κs = omega (arith, c .before .before .before .loop .inv .0 .within)
+line-end-requires-2 c κs = search needs
 
 loop-less : tie.Need-loop-less Inv-loop μ-loop
-loop-less c =
-    let turn = c .before .before .before .before in
-    omega (arith, turn .loop .inv .0 .within, c .before .before .before .loop-test .taken)
+loop-less c = search needs
 
 loop-again : tie.Need-loop-again Inv-loop μ-loop
 loop-again c =
-    let turn = c .before .before .before .before in
-    let input = turn .before .before .before .before .args .input .now in (
+    let held = c .before .before .before in
+    let tested = held .before .before .before in
+    let turn = tested .before in
+    let a = turn .before .before .before .before .args in (
       c .line-end2 .ensures,
-      left-fewer classes input (turn .loop .at) (turn .loop .end) (turn .loop .inv .0) (stored (turn .loop .store)) (turn .loop .inv .1)
-          (c .before .before .before .loop-test .taken) (stored (c .before .hold-line .result)) (c .before .hold-line .ensures),
+      left-fewer classes (a .input .now) (turn .loop .at) (turn .loop .end) (turn .loop .inv .0) (stored (a .store .now)) (stored (turn .loop .store))
+          (turn .loop .inv .1) (tested .loop-test .taken) (stored (held .hold-line .last .0)) (held .hold-line .ensures),
+      search needs,
     )
+
+same-length : tie.Need-same-length Inv-loop μ-loop
+same-length c = search needs
 
 returns : tie.Need-returns Inv-loop μ-loop
 returns c =
     let turn = c .before in
-    let input = turn .before .before .before .before .args .input .now in
-    left-none classes input (turn .loop .at) (turn .loop .end) (turn .loop .inv .0) (stored (turn .loop .store)) (turn .loop .inv .1)
-    (c .loop-test .left)
+    let a = turn .before .before .before .before .args in
+    left-none classes (a .input .now) (turn .loop .at) (turn .loop .end) (turn .loop .inv .0) (stored (a .store .now)) (stored (turn .loop .store))
+    (turn .loop .inv .1) (c .loop-test .left)
 
 pub hold-lines-spec : {M : Type 1} → statement M
 hold-lines-spec =
@@ -70,7 +72,6 @@ hold-lines-spec =
     (tie.spec
     Inv-loop
     μ-loop
-    empty-requires
     line-end-requires
     loop-holds
     sub-hold-line
@@ -80,4 +81,5 @@ hold-lines-spec =
     line-end-requires-2
     loop-less
     loop-again
+    same-length
     returns)

@@ -1,8 +1,14 @@
 -- `preview::preview` meets its contract: a refusal, `too long`, or the header and then the rows. Assumes nothing.
+use mathlib.Core.Path.{subst}
+use mathlib.Core.List.{List}
 use native.Mathlib.Omega.{arith}
 use Rattle.decimal.proofs.Stores.{then}
+use Rattle.profile.specs.declared.Profile.{Profile}
 use Rattle.profile.specs.Rules.{classes}
 use Rattle.store.specs.Stored.{stored}
+use Rattle.store.specs.Reached.{Run}
+use Rattle.store.proofs.Reached.{zeros-empty}
+use Rattle.preview.specs.Preview.{cut, callsIn}
 use Rattle.preview.proofs.EntryLaws.{shows-too-long, shows-listed, previews-refused, previews-done}
 use borrow.Author.Needs.{needs}
 use Rattle.preview.proofs.preview.Statement.{statement}
@@ -24,12 +30,16 @@ same-length c = search needs
 
 returns-2 : tie.Need-returns-2
 returns-2 c =
-    let sized = c .before .before .before .before .before .before in
+    let text = c .before .before in
+    let long = text .before .before .before in
+    let sized = long .before in
     let args = sized .before .before .before .args in
-    let text = c .before .before .put-text in
-    let long = c .before .before .before .before .before .if2 .taken in
-    previews-done classes (args .input .now) (args .out .now) (sized .if1 .left) (shows-too-long classes (args .input .now) long) (text .ensures)
-    (omega (arith, text .ensures .place))
+    previews-done classes (args .input .now) (args .out .now) (sized .if1 .left)
+    (shows-too-long classes (args .input .now) (long .if2 .taken)) (text .put-text .ensures)
+    (omega (arith, text .put-text .ensures .place))
+
+slice-aggregate-hold-lines : tie.Need-slice-aggregate-hold-lines
+slice-aggregate-hold-lines c = search needs
 
 hold-lines-requires : tie.Need-hold-lines-requires
 hold-lines-requires c κs = search needs
@@ -40,6 +50,9 @@ slice-aggregate-put-text-2 c = search needs
 put-text-requires-2 : tie.Need-put-text-requires-2
 put-text-requires-2 c κs = search needs
 
+slice-aggregate-put-rows : tie.Need-slice-aggregate-put-rows
+slice-aggregate-put-rows c = search needs
+
 put-rows-requires : tie.Need-put-rows-requires
 put-rows-requires c κs = search needs
 
@@ -48,14 +61,18 @@ same-length-2 c = search needs
 
 returns-3 : tie.Need-returns-3
 returns-3 c =
-    let headed = c .before .before .before .before .before .before in
-    let held = headed .before .before .before in
-    let sized = held .before .before in
+    let listed = c .before .before in
+    let headed = listed .before .before .before .before .before in
+    let held = headed .before .before .before .before in
+    let short = held .before .before in
+    let sized = short .before in
     let args = sized .before .before .before .args in
-    let rows = c .before .before .put-rows in
-    let shows = shows-listed classes (args .input .now) (held .before .if2 .left) (stored (held .hold-lines .result)) (held .hold-lines .ensures) in
-    previews-done classes (args .input .now) (args .out .now) (sized .if1 .left) shows (then (headed .put-text2 .ensures) (rows .ensures .0))
-    (omega (arith, rows .ensures .1, headed .put-text2 .ensures .place))
+    let input = args .input .now in
+    let held-in = stored (held .hold-lines .last .0) in
+    let reached = subst (λ (l : List Profile). Run l (callsIn classes (cut input)) held-in) zeros-empty (held .hold-lines .ensures) in
+    let shows = shows-listed classes input (short .if2 .left) held-in reached in
+    previews-done classes input (args .out .now) (sized .if1 .left) shows (then (headed .put-text2 .ensures) (listed .put-rows .ensures .0))
+    (omega (arith, listed .put-rows .ensures .1, headed .put-text2 .ensures .place))
 
 pub preview-spec : {M : Type 1} → statement M
 preview-spec =
@@ -66,9 +83,11 @@ preview-spec =
     put-text-requires
     same-length
     returns-2
+    slice-aggregate-hold-lines
     hold-lines-requires
     slice-aggregate-put-text-2
     put-text-requires-2
+    slice-aggregate-put-rows
     put-rows-requires
     same-length-2
     returns-3)

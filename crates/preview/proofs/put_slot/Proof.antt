@@ -1,17 +1,26 @@
 -- `preview::put_slot` meets its contract. Assumes nothing.
-use mathlib.Core.Path.{refl, sym}
+use mathlib.Core.Path.{refl, _∙_, sym, ap}
 use native.Mathlib.Omega.{arith}
 use borrow.Author.Tests.{not-true, not-false}
 use Rattle.decimal.proofs.Stores.{appended-as}
+use Rattle.preview.specs.Preview.{row}
 use Rattle.preview.proofs.RowLaws.{no-row, one-row}
 use borrow.Author.Needs.{needs}
 use Rattle.preview.proofs.put_slot.Statement.{statement}
 use Rattle.preview.proofs.put_slot.Tie as tie
 
+is-used-requires : tie.Need-is-used-requires
+is-used-requires c κs = search needs
+
 returns : tie.Need-returns
 returns c =
-    let slot = c .before .before .before .args .slot in
-    (appended-as (sym (no-row slot (not-true _ (c .if1 .taken)))) (record { place = omega arith; stored = refl }), omega arith)
+    let asked = c .before in
+    let slot = asked .before .before .before .args .slot .now in
+    let free = sym (asked .is-used .ensures) ∙ not-true _ (c .if1 .taken) in
+    (appended-as (sym (no-row slot free)) (record { place = omega arith; stored = refl }), omega arith)
+
+read-profile-requires : tie.Need-read-profile-requires
+read-profile-requires c κs = search needs
 
 put-row-requires : tie.Need-put-row-requires
 put-row-requires c κs = search needs
@@ -21,10 +30,21 @@ same-length c = search needs
 
 returns-2 : tie.Need-returns-2
 returns-2 c =
-    let put = c .before .before .put-row in
-    let slot = c .before .before .before .before .before .before .before .before .args .slot in
-    let used = not-false _ (c .before .before .before .before .before .if1 .left) in
-    (appended-as (sym (one-row slot used)) (put .ensures .0), put .ensures .1)
+    let put = c .before .before in
+    let read = put .before .before in
+    let tested = read .before in
+    let slot = tested .before .before .before .before .args .slot .now in
+    let used = sym (tested .before .is-used .ensures) ∙ not-false _ (tested .if1 .left) in
+    let whole = ap row (read .read-profile .ensures) ∙ sym (one-row slot used) in
+    (appended-as whole (put .put-row .ensures .0), put .put-row .ensures .1)
 
 pub put-slot-spec : {M : Type 1} → statement M
-put-slot-spec = tie.close (tie.spec returns put-row-requires same-length returns-2)
+put-slot-spec =
+    tie.close
+    (tie.spec
+    is-used-requires
+    returns
+    read-profile-requires
+    put-row-requires
+    same-length
+    returns-2)

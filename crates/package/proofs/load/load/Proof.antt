@@ -1,26 +1,68 @@
--- `package::load::load` meets its contract: the device, opening, and then the store's answer. Assumes nothing.
-use mathlib.Core.Path.{_∙_, sym, subst}
+-- `package::load::load` meets its contract: the device, the store's size, opening, and then the store's answer. Assumes nothing.
+use mathlib.Core.Path.{_≡_, _∙_, sym, ap, subst}
+use mathlib.Core.Bool.{true}
 use borrow.Author.Needs.{needs}
 use borrow.Author.Tests.{not-true, not-false}
 use Rattle.profile.specs.Rules.{classes}
+use Rattle.store.specs.Keys.{deviceOf, deviceOk}
 use Rattle.package.specs.declared.load.Opened.{Opened}
 use Rattle.package.specs.Entries.{Opens}
-use Rattle.package.proofs.LoadLaws.{load-device, load-refused, load-put}
+use Rattle.package.proofs.LoadLaws.{load-country, load-device, load-size, load-refused, load-put}
 use Rattle.package.proofs.load.load.Statement.{statement}
 use Rattle.package.proofs.load.load.Tie as tie
+
+-- ---- places of the code, each from the next
+
+abbrev entry : tie.Else1 → tie.Start
+entry c = c .before .before .before .before .before .before .before
+
+abbrev at-two : tie.After-device-ok → tie.Else1
+at-two c = c .before .before
+
+abbrev at-set : tie.Else3 → tie.Else2
+at-set c = c .before
+
+-- ---- what is known past each stage
+
+-- whether the device is set to a country and class
+answered : (c : tie.After-device-ok) →
+    let a = entry (at-two c) .args in
+    c .device-ok .result ≡ deviceOk classes (deviceOf (a .country .now) (a .class))
+answered c = c .device-ok .ensures ∙ ap (deviceOk classes) (c .before .device-of .ensures)
+
+set : (c : tie.Else2) →
+    let a = entry (at-two (c .before)) .args in
+    deviceOk classes (deviceOf (a .country .now) (a .class)) ≡ true
+set c = sym (answered (c .before)) ∙ not-false _ (c .if2 .left)
+
+-- ---- needs
+
+returns : tie.Need-returns
+returns c =
+    let a = c .before .before .before .before .before .before .before .args in
+    load-country (a .p) classes (a .key .now) (a .sealed .now) (a .country .now) (a .class) (a .store .now) (c .if1 .taken)
+
+device-of-requires : tie.Need-device-of-requires
+device-of-requires c κs = search needs
 
 device-ok-requires : tie.Need-device-ok-requires
 device-ok-requires c κs = search needs
 
-refuse-requires : tie.Need-refuse-requires
-refuse-requires c κs = search needs
+returns-2 : tie.Need-returns-2
+returns-2 c =
+    let asked = c .before in
+    let two = at-two asked in
+    let a = entry two .args in
+    load-device (a .p) classes (a .key .now) (a .sealed .now) (a .country .now) (a .class) (a .store .now) (two .if1 .left)
+    (sym (answered asked) ∙ not-true _ (c .if2 .taken))
 
-returns : tie.Need-returns
-returns c =
-    let asked = c .before .before in
-    let a = asked .before .before .before .before .before .args in
-    load-device (a .p) classes (a .key .now) (a .sealed .now) (a .device) (a .store)
-    (sym (asked .device-ok .ensures) ∙ not-true _ (c .before .if1 .taken)) (c .refuse .ensures)
+returns-3 : tie.Need-returns-3
+returns-3 c =
+    let settled = c .before in
+    let two = at-two (settled .before) in
+    let a = entry two .args in
+    load-size (a .p) classes (a .key .now) (a .sealed .now) (a .country .now) (a .class) (a .store .now) (two .if1 .left)
+    (set settled) (c .if3 .taken)
 
 open-requires : tie.Need-open-requires
 open-requires c κs = search needs
@@ -34,58 +76,64 @@ put-requires c κs = search needs
 enum-known-refusal : tie.Need-enum-known-refusal
 enum-known-refusal c = search needs
 
-refuse-requires-2 : tie.Need-refuse-requires-2
-refuse-requires-2 c κs = search needs
-
 same-length : tie.Need-same-length
 same-length c = search needs
 
 same-length-2 : tie.Need-same-length-2
 same-length-2 c = search needs
 
-returns-2 : tie.Need-returns-2
-returns-2 c =
-    let found = c .before .before in
-    let asked = found .before .before .before .before .before .before in
-    let set = asked .before .before .before in
-    let a = set .before .before .before .before .before .before .args in
-    load-put (a .p) classes (a .key .now) (a .sealed .now) (a .device) (a .store)
-    (sym (set .before .device-ok .ensures) ∙ not-false _ (set .if1 .left))
-    (subst (λ (o : Opened). Opens (a .p) classes (a .key .now) (a .sealed .now) o) (found .profile .given .1) (asked .«open» .ensures))
-    (c .put .ensures)
-
 same-length-3 : tie.Need-same-length-3
 same-length-3 c = search needs
+
+returns-4 : tie.Need-returns-4
+returns-4 c =
+    let stored = c .before .before in
+    let found = stored .before .before .before in
+    let asked = found .before .before .before .before .before .before in
+    let whole = asked .before .before .before in
+    let settled = at-set whole in
+    let two = at-two (settled .before) in
+    let a = entry two .args in
+    let opens =
+    subst (λ (o : Opened). Opens (a .p) classes (a .key .now) (a .sealed .now) o) (found .profile .given .1) (asked .«open» .ensures) in
+    load-put (a .p) classes (a .key .now) (a .sealed .now) (a .country .now) (a .class) (a .store .now) (two .if1 .left)
+    (set settled) (whole .if3 .left) _ (settled .before .before .device-of .ensures) opens (stored .put .ensures)
 
 same-length-4 : tie.Need-same-length-4
 same-length-4 c = search needs
 
-returns-3 : tie.Need-returns-3
-returns-3 c =
-    let found = c .before .before in
+same-length-5 : tie.Need-same-length-5
+same-length-5 c = search needs
+
+returns-5 : tie.Need-returns-5
+returns-5 c =
+    let found = c .before in
     let asked = found .before .before .before .before .before .before in
-    let set = asked .before .before .before in
-    let a = set .before .before .before .before .before .before .args in
-    load-refused (a .p) classes (a .key .now) (a .sealed .now) (a .device) (a .store)
-    (sym (set .before .device-ok .ensures) ∙ not-false _ (set .if1 .left))
+    let whole = asked .before .before .before in
+    let settled = at-set whole in
+    let two = at-two (settled .before) in
+    let a = entry two .args in
+    load-refused (a .p) classes (a .key .now) (a .sealed .now) (a .country .now) (a .class) (a .store .now) (two .if1 .left)
+    (set settled) (whole .if3 .left)
     (subst (λ (o : Opened). Opens (a .p) classes (a .key .now) (a .sealed .now) o) (found .refusal .given .1) (asked .«open» .ensures))
-    (c .refuse2 .ensures)
 
 pub load-spec : {M : Type 1} → statement M
 load-spec =
     tie.close
     (tie.spec
-    device-ok-requires
-    refuse-requires
     returns
+    device-of-requires
+    device-ok-requires
+    returns-2
+    returns-3
     open-requires
     enum-known-profile
     put-requires
     enum-known-refusal
-    refuse-requires-2
     same-length
     same-length-2
-    returns-2
     same-length-3
+    returns-4
     same-length-4
-    returns-3)
+    same-length-5
+    returns-5)
