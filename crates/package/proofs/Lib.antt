@@ -1,5 +1,4 @@
 pub mod Stages
-pub mod SizeLaws
 pub mod MakeLaws
 pub mod OpenLaws
 pub mod LoadLaws

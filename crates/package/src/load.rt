@@ -27,7 +27,7 @@ pub fn open(p: Params, key: &[u8], sealed: &[u8], block: &mut [u8], vs: &mut [u8
     if sized != 0 {
         return Opened::Refused(sized);
     }
-    let size = sizes::signature_size(p);
+    let size = scheme::signature_size(p);
     let refusal = verifier::verify::verify(p, key, &sealed[size..], &sealed[..size], block, vs);
     if refusal != 0 {
         return Opened::Refused(refusal);

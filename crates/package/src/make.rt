@@ -29,7 +29,7 @@ fn seal(
     requires { ⌜ Room p (now line) (now out) ⌝ }
     ensures { λ r. ⌜ Seals p (now (private .entry)) (now (master .entry)) (now (salt .entry)) (now (line .entry)) (now (out .entry)) (now (length .entry)) r (now (out .exit)) (now (length .exit)) ⌝ }
 {
-    let size = sizes::signature_size(p);
+    let size = scheme::signature_size(p);
     let end = size + line.len();
     let refusal = signer::sign::sign(
         p,

@@ -5,18 +5,7 @@ use profile::SHORTEST;
 ghost use mathlib.Core.Path.{_≡_};
 ghost use Rattle.outcome.specs.Answer.{firstRefusal};
 ghost use Rattle.parameters.specs.Sound.{Sound};
-ghost use Rattle.scheme.specs.Sign.{signatureSize};
 ghost use Rattle.package.specs.Package.{makeSizes, openSizes};
-
-// Bytes of a signature.
-pub fn signature_size(p: Params) -> usize
-    requires { ⌜ Sound p ⌝ }
-    ensures { λ r. ⌜ r ≡ signatureSize p ⌝ }
-{
-    let ones = p.w;
-    let zeros = p.t - ones;
-    3 * p.digest + ones * signer::write::part_size(p, 1) + zeros * signer::write::part_size(p, 0)
-}
 
 // The sizes of seeds and salt, and of what is lent for a package.
 pub fn check_make(p: Params, private: &[u8], master: &[u8], salt: &[u8], lent: usize) -> u8
@@ -32,7 +21,7 @@ pub fn check_make(p: Params, private: &[u8], master: &[u8], salt: &[u8], lent: u
     if salt.len() != p.digest {
         return 1;
     }
-    if lent != signature_size(p) + LONGEST {
+    if lent != scheme::signature_size(p) + LONGEST {
         return 1;
     }
     0
@@ -43,10 +32,10 @@ pub fn check_open(p: Params, key: usize, sealed: usize) -> u8
     requires { ⌜ Sound p ⌝ }
     ensures { λ r. ⌜ r ≡ firstRefusal (openSizes p key sealed) ⌝ }
 {
-    if key != p.digest + packing::packed_size(p.n - p.k, 7) {
+    if key != scheme::key_size(p) {
         return 1;
     }
-    let size = signature_size(p);
+    let size = scheme::signature_size(p);
     if sealed < size + SHORTEST {
         return 1;
     }

@@ -6,7 +6,7 @@ use borrow.Author.Needs.{needs}
 use borrow.Author.Tests.{eq-eqb, ne-eqb}
 use lib.ListN.{length}
 use Rattle.package.specs.Package.{packageMax}
-use Rattle.package.proofs.SizeLaws.{signature-bounded}
+use Rattle.scheme.proofs.Bounds.{signature-bounded}
 use Rattle.package.proofs.sizes.check_make.Statement.{statement}
 use Rattle.package.proofs.sizes.check_make.Tie as tie
 

@@ -6,7 +6,7 @@ use borrow.Author.Needs.{needs}
 use borrow.Author.Tests.{eq-eqb, ne-eqb, le-leb, lt-leb}
 use Rattle.scheme.specs.Key.{keySize}
 use Rattle.package.specs.Package.{packageMin, packageMax}
-use Rattle.package.proofs.SizeLaws.{signature-bounded, key-bounded}
+use Rattle.scheme.proofs.Bounds.{signature-bounded, key-bounded}
 use Rattle.package.proofs.sizes.check_open.Statement.{statement}
 use Rattle.package.proofs.sizes.check_open.Tie as tie
 
