@@ -3,11 +3,11 @@ use mathlib.Core.Path.{_≡_, sym, subst}
 use mathlib.Core.Bool.{true}
 use mathlib.Core.List.{List}
 use Prim.Native.Nat.{ℕ, _-_, _≤_}
-use native.Mathlib.Nat.{mul-le-mul}
 use native.Mathlib.Omega.{arith}
 use lib.Dec.{T}
 use lib.ListN.{length}
 use Rattle.outcome.specs.Answer.{Answers}
+use Rattle.outcome.proofs.Numbers.{product-le}
 use Rattle.packing.proofs.Below.{Below}
 use Rattle.parameters.specs.declared.Params.{Params}
 use Rattle.parameters.specs.Sound.{Sound}
@@ -40,5 +40,5 @@ module _ (p : Params) where
   -- V is no longer than the local sizes allow
   pub count-fits : Sound p → matrixCount p ≤ 65536
   count-fits sound =
-      mul-le-mul {n₁ = p .n - p .k} {m₁ = p .k} {n₂ = 256} {m₂ = 256} (omega (arith, sound .n-fits))
-      (omega (arith, sound .k≤n, sound .n-fits))
+      product-le (p .n - p .k) (p .k) 256 256
+      (omega (arith, sound .n-fits)) (omega (arith, sound .k≤n, sound .n-fits))

@@ -73,17 +73,11 @@ fn step(
     let h = &made[d..];
     let brought = &part[cut..];
     if round.b == 1 {
-        let after = absorb_round(sponges, brought, given, h);
-        Rounds {
-            answer: 0,
-            sponges: after,
-        }
+        let sponges = absorb_round(sponges, brought, given, h);
+        Rounds { answer: 0, sponges }
     } else {
-        let after = absorb_round(sponges, given, brought, h);
-        Rounds {
-            answer: 0,
-            sponges: after,
-        }
+        let sponges = absorb_round(sponges, given, brought, h);
+        Rounds { answer: 0, sponges }
     }
 }
 

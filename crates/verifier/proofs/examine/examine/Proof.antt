@@ -22,9 +22,18 @@ use Rattle.verifier.proofs.Vectors.{same-vector}
 use Rattle.verifier.proofs.examine.examine.Statement.{statement}
 use Rattle.verifier.proofs.examine.examine.Tie as tie
 
--- the entry of the function, from its places
+-- the entry of the function, and earlier places, from its places
+abbrev fields-passed : tie.Else3 → tie.Else2
+fields-passed c = c .before .before
+
+abbrev numbers-passed : tie.Else4 → tie.Else3
+numbers-passed c = c .before .before .before .before .before .before .before .before .before
+
+abbrev entry-sizes : tie.After-sizes → tie.Start
+entry-sizes c = c .before .before .before .before .before .before .before .before .before
+
 abbrev entry-else1 : tie.Else1 → tie.Start
-entry-else1 c = c .before .before .before .before .before .before .before .before .before .before
+entry-else1 c = entry-sizes (c .before)
 
 abbrev entry-syndrome : tie.After-syndrome → tie.Start
 entry-syndrome c = entry-else1 (c .before .before .before)
@@ -61,7 +70,7 @@ returns : tie.Need-returns
 unfolding examine examineChecks
 returns c =
     let at-sizes = c .before in
-    let start = at-sizes .before .before .before .before .before .before .before .before .before in
+    let start = entry-sizes at-sizes in
     stops (sizes start) _ (at-sizes .sizes .ensures) (c .if1 .taken)
 
 sub-m : tie.Need-sub-m
@@ -76,13 +85,13 @@ past-sizes : (c : tie.Else1) (rest : List Check) {q : ℕ} → q ≡ firstRefusa
     → q ≡ firstRefusal (sizes (entry-else1 c) ++ rest)
 past-sizes c rest e =
     let at-sizes = c .before in
-    let start = at-sizes .before .before .before .before .before .before .before .before .before in
+    let start = entry-sizes at-sizes in
     goes-on (sizes start) rest (at-sizes .sizes .ensures) (c .if1 .left) e
 
 long : (c : tie.Else1) → length (entry-else1 c .args .key .now) ≡ keySize (entry-else1 c .args .p)
 long c =
     let at-sizes = c .before in
-    let start = at-sizes .before .before .before .before .before .before .before .before .before in
+    let start = entry-sizes at-sizes in
     let a = start .args in
     key-sized (a .p) (a .key .now) (a .salt .now) (a .c0 .now) (a .c1 .now) (a .h .now) (a .challenge) (a .reply .now)
     (sym (at-sizes .sizes .ensures) ∙ c .if1 .left)
@@ -179,9 +188,9 @@ b-binary c =
 reply-long : (c : tie.Else3) → length (entry-else3 c .args .reply .now)
     ≡ replySize (entry-else3 c .args .p) (entry-else3 c .args .challenge)
 reply-long c =
-    let at-if1 = c .before .before .before .before .before .before .before in
+    let at-if1 = fields-passed c .before .before .before .before .before in
     let at-sizes = at-if1 .before in
-    let start = at-sizes .before .before .before .before .before .before .before .before .before in
+    let start = entry-sizes at-sizes in
     let a = start .args in
     reply-sized (a .p) (a .key .now) (a .salt .now) (a .c0 .now) (a .c1 .now) (a .h .now) (a .challenge) (a .reply .now)
     (sym (at-sizes .sizes .ensures) ∙ at-if1 .if1 .left) (b-binary c)
@@ -245,13 +254,13 @@ vs-within c = rw (c .matrix .kept .1 .1 .1 .0) (omega (arith, entry-matrix c .pr
 cast-first : tie.Need-cast-first
 cast-first c =
     let at-if4 = c .before .before .before in
-    let at-if3 = at-if4 .before .before .before .before .before .before .before .before .before in
+    let at-if3 = numbers-passed at-if4 in
     omega (arith, β-small at-if3)
 
 cast-b : tie.Need-cast-b
 cast-b c =
     let at-if4 = c .before .before .before in
-    let at-if3 = at-if4 .before .before .before .before .before .before .before .before .before in
+    let at-if3 = numbers-passed at-if4 in
     omega (arith, b-binary at-if3)
 
 slice-reshare-prefix-entries : tie.Need-slice-reshare-prefix-entries
@@ -267,30 +276,28 @@ slice-aggregate-entries c =
 array-share-prefix-s : tie.Need-array-share-prefix-s
 array-share-prefix-s c =
     let at-if4 = c .before .before in
-    let at-if3 = at-if4 .before .before .before .before .before .before .before .before .before in
-    let at-syndrome = at-if3 .before .before .before .before in
+    let at-syndrome = fields-passed (numbers-passed at-if4) .before .before in
     lent-within (s-lent at-syndrome)
 
 slice-aggregate-syndrome-2 : tie.Need-slice-aggregate-syndrome-2
 slice-aggregate-syndrome-2 c =
     let at-if4 = c .before .before .before in
-    let at-if3 = at-if4 .before .before .before .before .before .before .before .before .before in
-    let at-syndrome = at-if3 .before .before .before .before in
+    let at-syndrome = fields-passed (numbers-passed at-if4) .before .before in
     lent-length (s-lent at-syndrome)
 
 round-requires : tie.Need-round-requires
 round-requires c κs =
     let at-if4 = c .before .before .before .before in
-    let at-if3 = at-if4 .before .before .before .before .before .before .before .before .before in
-    let at-if2 = at-if3 .before .before in
+    let at-if3 = numbers-passed at-if4 in
+    let at-if2 = fields-passed at-if3 in
     let start = entry-else2 at-if2 in
     ((start .pre .0, vs-vector at-if4, s-read at-if2 .1, omega (arith, β-small at-if3)), reply-long at-if3)
 
 round-requires-2 : tie.Need-round-requires-2
 round-requires-2 c κs =
     let at-if4 = c .before .before .before .before in
-    let at-if3 = at-if4 .before .before .before .before .before .before .before .before .before in
-    let at-if2 = at-if3 .before .before in
+    let at-if3 = numbers-passed at-if4 in
+    let at-if2 = fields-passed at-if3 in
     let start = entry-else2 at-if2 in
     ((start .pre .0, vs-vector at-if4, s-read at-if2 .1, omega (arith, β-small at-if3)), reply-long at-if3)
 
@@ -300,16 +307,13 @@ same-length-3 c = search needs
 same-length-4 : tie.Need-same-length-4
 same-length-4 c = search needs
 
-abbrev fields-passed : tie.Else4 → tie.Else2
-fields-passed c = c .before .before .before .before .before .before .before .before .before .before .before
-
 -- the round's answer is the examiner's
 answers : (c : tie.Else4) (r : ℕ) (matching : List ℕ)
     → matching ≡ pick (eqb (entry-else4 c .args .challenge) 1) (entry-else4 c .args .c1 .now)
     (entry-else4 c .args .c0 .now)
     → r ≡ firstRefusal
-    (examineRound (entry-else4 c .args .p) (vs c) (s (fields-passed c)) (entry-else4 c .args .salt .now)
-    (entry-else4 c .args .i)
+    (examineRound (entry-else4 c .args .p) (vs c) (s (fields-passed (numbers-passed c)))
+    (entry-else4 c .args .salt .now) (entry-else4 c .args .i)
     (entry-else4 c .args .beta) (entry-else4 c .args .challenge) (entry-else4 c .args .reply .now) matching
     (entry-else4 c .args .h .now))
     → r ≡ examine (entry-else4 c .args .p) (entry-else4 c .args .key .now) (entry-else4 c .args .salt .now)
@@ -319,8 +323,8 @@ answers : (c : tie.Else4) (r : ℕ) (matching : List ℕ)
     (entry-else4 c .args .challenge) (entry-else4 c .args .reply .now)
 unfolding examine examineChecks
 answers c r matching m e =
-    let at-if3 = c .before .before .before .before .before .before .before .before .before in
-    let at-if2 = at-if3 .before .before in
+    let at-if3 = numbers-passed c in
+    let at-if2 = fields-passed at-if3 in
     let start = entry-else2 at-if2 in
     let a = start .args in
     let v = vs-is c in

@@ -24,7 +24,7 @@ packed-size-requires : tie.Need-packed-size-requires
 packed-size-requires c κs = search needs
 
 array-borrow-prefix-values : tie.Need-array-borrow-prefix-values
-array-borrow-prefix-values c = fits (c)
+array-borrow-prefix-values c = fits c
 
 slice-aggregate-pack-values : tie.Need-slice-aggregate-pack-values
 slice-aggregate-pack-values c = part-length (c .before .packed-size .result) (replicate 224 0) (fits (c .before))

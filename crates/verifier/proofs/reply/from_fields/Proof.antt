@@ -28,10 +28,10 @@ packed-size-requires : tie.Need-packed-size-requires
 packed-size-requires c κs = search needs
 
 sub-commit-syndrome : tie.Need-sub-commit-syndrome
-sub-commit-syndrome c = omega (arith, within (c))
+sub-commit-syndrome c = omega (arith, within c)
 
 part-commit-syndrome-start : tie.Need-part-commit-syndrome-start
-part-commit-syndrome-start c = omega (arith, within (c))
+part-commit-syndrome-start c = omega (arith, within c)
 
 part-commit-syndrome-end : tie.Need-part-commit-syndrome-end
 part-commit-syndrome-end c = search needs

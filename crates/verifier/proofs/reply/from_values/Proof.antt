@@ -20,7 +20,13 @@ use Rattle.verifier.proofs.Vectors.{made, same-vector, length-less}
 use Rattle.verifier.proofs.reply.from_values.Statement.{statement}
 use Rattle.verifier.proofs.reply.from_values.Tie as tie
 
--- the entry of the function, from its places
+-- the entry of the function, and earlier places, from its places
+abbrev exponents-read : tie.After-reply-syndrome → tie.Else2
+exponents-read c = c .before .before .before .before .before
+
+abbrev values-read : tie.After-reply-syndrome → tie.Else1
+values-read c = c .before .before .before .before .before .before .before .before .before .before
+
 abbrev entry-packed-size : tie.After-packed-size → tie.Start
 entry-packed-size c = c .before .before .before .before .before .before .before
 
@@ -229,12 +235,6 @@ array-share-prefix-xs c = lent-within (xs-lent (c .before))
 slice-aggregate-from-fields : tie.Need-slice-aggregate-from-fields
 slice-aggregate-from-fields c = lent-length (xs-lent (c .before .before))
 
-abbrev values-read : tie.After-reply-syndrome → tie.Else1
-values-read c = c .before .before .before .before .before .before .before .before .before .before
-
-abbrev exponents-read : tie.After-reply-syndrome → tie.Else2
-exponents-read c = c .before .before .before .before .before
-
 -- s̃ of what was read
 syndromed : (c : tie.After-reply-syndrome) → take
     (entry-reply-syndrome c .args .p .n - entry-reply-syndrome c .args .p .k)
@@ -251,7 +251,7 @@ syndromed c =
     let a = start .args in
     let es = lent-part (es-lent at-unpack-exponents) in
     let ys = lent-part (ys-lent at-unpack-values) in
-    lent-part (xs-lent (c)) ∙ c .reply-syndrome .ensures
+    lent-part (xs-lent c) ∙ c .reply-syndrome .ensures
     ∙ (λ i. lessTimes (a .round .beta .0) (syndrome (a .p .k) (a .vs .now) (scaled (es i) (ys i))) (a .s .now))
 
 from-fields-requires : tie.Need-from-fields-requires

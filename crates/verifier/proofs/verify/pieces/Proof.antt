@@ -19,7 +19,10 @@ use Rattle.verifier.proofs.Pieces.{first-short, second-short, first-vec
 use Rattle.verifier.proofs.verify.pieces.Statement.{statement}
 use Rattle.verifier.proofs.verify.pieces.Tie as tie
 
--- the entry of the function, from its places
+-- the entry of the function, and earlier places, from its places
+abbrev first-drawn : tie.Else2 → tie.Else1
+first-drawn c = c .before .before .before .before .before
+
 abbrev entry-first-challenges : tie.After-first-challenges → tie.Start
 entry-first-challenges c = c .before .before .before .before .before .before .before .before .before
 
@@ -207,9 +210,6 @@ bs-lent : (c : tie.After-second-challenges) → Lent (entry-second-challenges c 
 bs-lent c =
     record { fits = entry-second-challenges c .pre .0 .t-fits; kept = c .second-challenges .kept .1 .1 .1 .1 .1 .1 .0 }
 
-abbrev first-drawn : tie.Else2 → tie.Else1
-first-drawn c = c .before .before .before .before .before
-
 abbrev bs : tie.Else2 → List ℕ
 bs c =
     let at-second-challenges = c .before .before in
@@ -240,9 +240,7 @@ challenges c =
     }
 
 array-share-prefix-betas-2 : tie.Need-array-share-prefix-betas-2
-array-share-prefix-betas-2 c =
-    let at-first-challenges = c .before .before .before .before .before .before .before in
-    betas-within at-first-challenges
+array-share-prefix-betas-2 c = betas-within (first-drawn c .before .before)
 
 slice-aggregate-run : tie.Need-slice-aggregate-run
 slice-aggregate-run c =
@@ -269,7 +267,7 @@ part-run-end c = omega arith
 run-requires : tie.Need-run-requires
 run-requires c κs =
     let at-if2 = c .before .before .before in
-    let at-if1 = at-if2 .before .before .before .before .before in
+    let at-if1 = first-drawn at-if2 in
     let start = entry-else1 at-if1 in (
       (start .pre .0, start .pre .1, start .pre .2),
       (

@@ -20,9 +20,15 @@ use Rattle.verifier.proofs.Vectors.{same-vector}
 use Rattle.verifier.proofs.verify.verify.Statement.{statement}
 use Rattle.verifier.proofs.verify.verify.Tie as tie
 
--- the entry of the function, from its places
+-- the entry of the function, and earlier places, from its places
+abbrev fields-passed : tie.Else3 → tie.Else2
+fields-passed c = c .before .before .before .before .before .before .before .before .before
+
+abbrev entry-sizes : tie.After-sizes → tie.Start
+entry-sizes c = c .before .before .before .before .before .before
+
 abbrev entry-else1 : tie.Else1 → tie.Start
-entry-else1 c = c .before .before .before .before .before .before .before
+entry-else1 c = entry-sizes (c .before)
 
 abbrev entry-syndrome : tie.After-syndrome → tie.Start
 entry-syndrome c = entry-else1 (c .before .before .before)
@@ -52,7 +58,7 @@ returns : tie.Need-returns
 unfolding verify verifyChecks
 returns c =
     let at-sizes = c .before in
-    let start = at-sizes .before .before .before .before .before .before in
+    let start = entry-sizes at-sizes in
     stops (sizes start) _ (at-sizes .sizes .ensures) (c .if1 .taken)
 
 sub-m : tie.Need-sub-m
@@ -67,13 +73,13 @@ past-sizes : (c : tie.Else1) (rest : List Check) {q : ℕ} → q ≡ firstRefusa
     → q ≡ firstRefusal (sizes (entry-else1 c) ++ rest)
 past-sizes c rest e =
     let at-sizes = c .before in
-    let start = at-sizes .before .before .before .before .before .before in
+    let start = entry-sizes at-sizes in
     goes-on (sizes start) rest (at-sizes .sizes .ensures) (c .if1 .left) e
 
 long : (c : tie.Else1) → length (entry-else1 c .args .key .now) ≡ keySize (entry-else1 c .args .p)
 long c =
     let at-sizes = c .before in
-    let start = at-sizes .before .before .before .before .before .before in
+    let start = entry-sizes at-sizes in
     let a = start .args in
     key-long (a .p) (length (a .key .now)) (length (a .msg .now)) (length (a .sig .now))
     (sym (at-sizes .sizes .ensures) ∙ c .if1 .left)
@@ -201,24 +207,22 @@ slice-aggregate-pieces c =
 array-share-prefix-s : tie.Need-array-share-prefix-s
 array-share-prefix-s c =
     let at-if3 = c .before .before in
-    let at-if2 = at-if3 .before .before .before .before .before .before .before .before .before in
-    let at-syndrome = at-if2 .before .before in
+    let at-syndrome = fields-passed at-if3 .before .before in
     lent-within (s-lent at-syndrome)
 
 slice-aggregate-pieces-2 : tie.Need-slice-aggregate-pieces-2
 slice-aggregate-pieces-2 c =
     let at-if3 = c .before .before .before in
-    let at-if2 = at-if3 .before .before .before .before .before .before .before .before .before in
-    let at-syndrome = at-if2 .before .before in
+    let at-syndrome = fields-passed at-if3 .before .before in
     lent-length (s-lent at-syndrome)
 
 pieces-requires : tie.Need-pieces-requires
 pieces-requires c κs =
     let at-if3 = c .before .before .before in
-    let at-if2 = at-if3 .before .before .before .before .before .before .before .before .before in
+    let at-if2 = fields-passed at-if3 in
     let at-if1 = at-if2 .before .before .before .before .before in
     let at-sizes = at-if1 .before in
-    let start = at-sizes .before .before .before .before .before .before in
+    let start = entry-sizes at-sizes in
     let a = start .args in (
       start .pre .0,
       vs-vector at-if3,
@@ -237,7 +241,7 @@ returns-4 : tie.Need-returns-4
 unfolding verify verifyChecks
 returns-4 c =
     let at-if3 = c .before .before .before .before in
-    let at-if2 = at-if3 .before .before .before .before .before .before .before .before .before in
+    let at-if2 = fields-passed at-if3 in
     let start = entry-else2 at-if2 in
     let p = start .args .p in
     let sig = start .args .sig .now in
