@@ -1,3 +1,2 @@
 pub mod Parts
-pub mod LentParts
 pub mod Made

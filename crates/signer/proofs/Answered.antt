@@ -9,8 +9,9 @@ use Rattle.outcome.specs.Answer.{Check, _unless_, firstRefusal, Passed, Answers
 use Rattle.outcome.proofs.Checks.{passed, passed-front, refused-front}
 use Rattle.parameters.specs.declared.Params.{Params}
 use Rattle.scheme.specs.Key.{publicSeed, matrix, keyExponents, keyDraws}
-use Rattle.scheme.specs.Sign.{signatureSize, roundSeed, signSizes, signDraws, signatureFrom, signature, signChecks}
+use Rattle.scheme.specs.Sign.{signatureSize, roundSeed, signSizes, signature, signChecks}
 use Rattle.scheme.proofs.Keyed.{drawsOf}
+use Rattle.signer.specs.State.{SignedWith}
 
 -- checks that refuse decide, whatever stands behind them
 refused-whole : (xs ys : List Check) → (firstRefusal xs ≡ 0 → ⊥) → firstRefusal (xs ++ ys) ≡ firstRefusal xs
@@ -52,16 +53,12 @@ module _ (p : Params) (private master salt msg : List ℕ) (lent : ℕ) where
     -- the key is drawn: signing under V and the key exponents decides
     pub signed-with : {vs key old new : List ℕ} {r : ℕ} → firstRefusal (keyDraws p private) ≡ 0 →
         vs ≡ matrix p (publicSeed p private) → key ≡ keyExponents p private →
-        Answers (signDraws p vs key (roundSeed p master salt) salt msg)
-        (signatureFrom p vs key (roundSeed p master salt) salt msg) old r new →
+        SignedWith p vs key (roundSeed p master salt) salt msg old r new →
         Answers (signChecks p private master salt msg lent) (signature p private master salt msg) old r new
     unfolding signature signChecks
     signed-with {old = old} {new = new} {r = r} drawn vs-is key-is answers =
         let moved : Answers draws (signature p private master salt msg) old r new =
-        transport
-        (λ i. Answers (signDraws p (vs-is i) (key-is i) (roundSeed p master salt) salt msg)
-        (signatureFrom p (vs-is i) (key-is i) (roundSeed p master salt) salt msg) old r new)
-        answers
+        transport (λ i. SignedWith p (vs-is i) (key-is i) (roundSeed p master salt) salt msg old r new) answers
         in
         record {
           answer =

@@ -8,7 +8,7 @@ use native.Mathlib.Omega.{arith}
 use lib.Dec.{eqb}
 use lib.ListN.{length, take, drop, getD, length-append}
 use lib.Seq.{take-at, drop-at, take-all}
-use Rattle.outcome.specs.Answer.{Check, _unless_, short, firstRefusal, pick, Answers}
+use Rattle.outcome.specs.Answer.{Check, _unless_, short, firstRefusal, pick}
 use Rattle.outcome.specs.Lists.{flat, total}
 use Rattle.outcome.proofs.Checks.{fails, holds, passed-front, refused-front}
 use Rattle.outcome.proofs.Lists.{flat-ext, flat-part, length-flat, flat-passed}
@@ -50,6 +50,7 @@ use Rattle.signer.specs.State.{
   partAt,
   States,
   Replied,
+  SignedWith,
 }
 use Rattle.signer.proofs.Rounds.{below-values}
 
@@ -219,7 +220,7 @@ module _ (p : Params) (vs key seeds salt msg : List ℕ) where
           firstDrawn p c salt msg ≡ true →
           β ≡ firstChallenges p c salt msg →
           Replied p states β key seeds salt msg c old r new →
-          Answers (signDraws p vs key seedⱼ salt msg) (signatureFrom p vs key seedⱼ salt msg) old r new
+          SignedWith p vs key seedⱼ salt msg old r new
       unfolding signDraws challengeDraws signatureFrom sign.β sign.h sign.b
       replied sound {states = states} {β = β} {old = old} {r = r} held suffices first answers =
           let β-same = first ∙ ap (λ (s : List ℕ). firstChallenges p s salt msg) c-same in
@@ -243,11 +244,8 @@ module _ (p : Params) (vs key seeds salt msg : List ℕ) where
 -- the string of the seeds is that of the definition
 pub seeded : (p : Params) (vs key master salt msg : List ℕ) {seeds old new : List ℕ} {r : ℕ} →
     seeds ≡ roundSeeds p master salt →
-    Answers (signDraws p vs key (seedAt p seeds) salt msg)
-    (signatureFrom p vs key (seedAt p seeds) salt msg) old r new →
-    Answers (signDraws p vs key (roundSeed p master salt) salt msg)
-    (signatureFrom p vs key (roundSeed p master salt) salt msg) old r new
+    SignedWith p vs key (seedAt p seeds) salt msg old r new →
+    SignedWith p vs key (roundSeed p master salt) salt msg old r new
 unfolding roundSeed
 seeded p vs key master salt msg {old = old} {new = new} {r = r} e answers =
-    subst (λ (s : List ℕ). Answers (signDraws p vs key (seedAt p s) salt msg)
-    (signatureFrom p vs key (seedAt p s) salt msg) old r new) e answers
+    subst (λ (s : List ℕ). SignedWith p vs key (seedAt p s) salt msg old r new) e answers

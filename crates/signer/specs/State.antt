@@ -13,9 +13,10 @@ use Rattle.outcome.specs.Lists.{flat}
 use Rattle.packing.specs.Packing.{pack}
 use Rattle.packing.specs.Vector.{Vector}
 use Rattle.parameters.specs.declared.Params.{Params}
+use Rattle.parameters.specs.Sound.{Sound}
 use Rattle.linear.specs.Linear.{response, transformation, scaled, syndrome}
 use Rattle.scheme.specs.Strings.{digest, string0, string1, string2, string6}
-use Rattle.scheme.specs.Sign.{u′, e′, c0, c1, secondChallenges, secondDrawn}
+use Rattle.scheme.specs.Sign.{u′, e′, c0, c1, secondChallenges, secondDrawn, signDraws, signatureFrom}
 use Rattle.signer.specs.declared.commit.Column.{Column}
 
 -- Checks that all refuse as short, with what they leave in a lent buffer where they pass.
@@ -109,3 +110,12 @@ module _ (p : Params) where
   pub record States (states : List ℕ) : Type 0 where
     pub all-sized : length states ≡ p .t * stateSize
     pub each : (j : ℕ) → j < p .t → State (stateAt states j)
+
+  -- what replying rests on: key exponents, the seeds and the states of the rounds, and first challenges
+  abbrev pub Challenged : (key seeds states β : List ℕ) → Type 0
+  Challenged key seeds states β =
+      Sound p × Vector 7 (p .n) key × (length seeds ≡ p .t * p .seed) × States states × Vector 127 (p .t) β
+
+  -- what signing answers under V, key exponents and seeds of the rounds
+  abbrev pub SignedWith : (vs key : List ℕ) (seed : ℕ → List ℕ) (salt msg old : List ℕ) (r : ℕ) (new : List ℕ) → Type 0
+  SignedWith vs key seed salt msg = Answers (signDraws p vs key seed salt msg) (signatureFrom p vs key seed salt msg)

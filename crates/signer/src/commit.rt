@@ -22,7 +22,8 @@ ghost use Rattle.scheme.specs.Key.{matrixCount};
 ghost use Rattle.scheme.specs.Round.{roundDraws};
 ghost use Rattle.scheme.specs.Sign.{seedDraws};
 ghost use Rattle.packing.specs.Vector.{Vector};
-ghost use Rattle.signer.specs.State.{stateSize, seedAt, syndromeString, stateFrom, roundState, c0s, c1s, columnOf, Drawn};
+ghost use Rattle.signer.specs.State.{stateSize, seedAt, syndromeString, stateFrom, roundState, Drawn};
+ghost use Rattle.signer.specs.State.{c0s, c1s, columnOf};
 
 // A commitment of round i: values and exponents are packed where the string needs them.
 fn commit(rate: usize, tag: u8, xs: &[u8], es: &[u8], salt: &[u8], i: usize, out: &mut [u8])

@@ -12,13 +12,12 @@ use parameters::TWO_DIGESTS;
 ghost use mathlib.Core.Path.{_≡_};
 ghost use Prim.Native.Nat.{_*_};
 ghost use lib.ListN.{length};
-ghost use Rattle.outcome.specs.Answer.{Answers};
 ghost use Rattle.parameters.specs.Sound.{Sound};
 ghost use Rattle.scheme.specs.Key.{matrixCount};
-ghost use Rattle.scheme.specs.Sign.{signatureSize, signatureFrom, signDraws, roundSeed};
+ghost use Rattle.scheme.specs.Sign.{signatureSize, roundSeed};
 ghost use Rattle.scheme.specs.Entries.{Signs};
 ghost use Rattle.packing.specs.Vector.{Vector};
-ghost use Rattle.signer.specs.State.{stateSize, States, Replied};
+ghost use Rattle.signer.specs.State.{stateSize, Challenged, Replied, SignedWith};
 ghost use Rattle.signer.specs.Scratch.{SignScratch};
 
 // From c and the first challenges on: h, the second challenges, and the signature.
@@ -33,8 +32,7 @@ fn reply(
     msg: &[u8],
     sig: &mut [u8],
 ) -> u8
-    requires { ⌜ Sound p × Vector 7 (p .n) (now key) × (length (now seeds) ≡ p .t * p .seed) × States p (now states)
-        × Vector 127 (p .t) (now betas) ⌝ }
+    requires { ⌜ Challenged p (now key) (now seeds) (now states) (now betas) ⌝ }
     requires { ⌜ (length (now c) ≡ p .digest) × (length (now salt) ≡ p .digest)
         × (length (now sig) ≡ signatureSize p) ⌝ }
     ensures { λ r. ⌜ Replied p (now (states .entry)) (now (betas .entry)) (now (key .entry)) (now (seeds .entry))
@@ -79,10 +77,8 @@ fn sign_with(
         × (length (now salt) ≡ p .digest) ⌝ }
     requires { ⌜ (length (now seeds) ≡ p .t * p .seed) × (length (now states) ≡ p .t * stateSize p)
         × (length (now sig) ≡ signatureSize p) ⌝ }
-    ensures { λ r. ⌜ Answers (signDraws p (now (vs .entry)) (now (key .entry))
-        (roundSeed p (now (master .entry)) (now (salt .entry))) (now (salt .entry)) (now (msg .entry)))
-        (signatureFrom p (now (vs .entry)) (now (key .entry)) (roundSeed p (now (master .entry)) (now (salt .entry)))
-        (now (salt .entry)) (now (msg .entry)))
+    ensures { λ r. ⌜ SignedWith p (now (vs .entry)) (now (key .entry))
+        (roundSeed p (now (master .entry)) (now (salt .entry))) (now (salt .entry)) (now (msg .entry))
         (now (sig .entry)) r (now (sig .exit)) ⌝ }
 {
     let t = p.t;

@@ -15,7 +15,7 @@ ghost use Rattle.linear.specs.Linear.{transformation};
 ghost use Rattle.scheme.specs.Sign.{partSize};
 ghost use Rattle.scheme.specs.Verify.{offset};
 ghost use Rattle.packing.specs.Vector.{Vector};
-ghost use Rattle.signer.specs.State.{State, States, exponentsOf, c0Of, c1Of, responseOf, partOf, partAt};
+ghost use Rattle.signer.specs.State.{State, Challenged, exponentsOf, c0Of, c1Of, responseOf, partOf, partAt};
 
 // Under 1: the seed, and c0(i).
 fn write_seed(p: Params, seed: &[u8], state: &[u8], part: &mut [u8])
@@ -74,8 +74,7 @@ fn write_parts(
     bs: &[u8],
     parts: &mut [u8],
 )
-    requires { ⌜ Sound p × Vector 7 (p .n) (now key) × (length (now seeds) ≡ p .t * p .seed) × States p (now states)
-        × Vector 127 (p .t) (now betas) ⌝ }
+    requires { ⌜ Challenged p (now key) (now seeds) (now states) (now betas) ⌝ }
     requires { ⌜ (length (now bs) ≡ p .t) × (length (now parts) ≡ offset p (now bs) (p .t)) ⌝ }
     ensures { λ r. ⌜ now (parts .exit) ≡ flat (partAt p (now (states .entry)) (now (betas .entry)) (now (key .entry))
         (now (seeds .entry)) (now (bs .entry))) (p .t) ⌝ }
@@ -121,8 +120,7 @@ pub fn write_signature(
     bs: &[u8],
     sig: &mut [u8],
 )
-    requires { ⌜ Sound p × Vector 7 (p .n) (now key) × (length (now seeds) ≡ p .t * p .seed) × States p (now states)
-        × Vector 127 (p .t) (now betas) ⌝ }
+    requires { ⌜ Challenged p (now key) (now seeds) (now states) (now betas) ⌝ }
     requires { ⌜ (length (now salt) ≡ p .digest) × (length (now c) ≡ p .digest) × (length (now h) ≡ p .digest) ⌝ }
     requires { ⌜ (length (now bs) ≡ p .t) × (length (now sig) ≡ 3 * p .digest + offset p (now bs) (p .t)) ⌝ }
     ensures { λ r. ⌜ now (sig .exit) ≡ now (salt .entry) ++ now (c .entry) ++ now (h .entry)

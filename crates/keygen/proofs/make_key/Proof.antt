@@ -13,15 +13,14 @@ use Rattle.outcome.proofs.Checks.{refused, done}
 use Rattle.linear.proofs.Kept.{kept-below}
 use Rattle.scheme.specs.Key.{makeKeyChecks, keySize}
 use Rattle.scheme.proofs.AcceptedKey.{read}
-use Rattle.keygen.proofs.LentParts.{lent-within}
+use Rattle.expand.proofs.Lent.{Lent, lent-within}
 use Rattle.keygen.proofs.Made.{public-lent, below-matrix, sized-checks, key-made}
 use Rattle.keygen.proofs.make_key.Statement.{statement}
 use Rattle.keygen.proofs.make_key.Tie as tie
 
 returns : tie.Need-returns
 unfolding makeKeyChecks
-returns c =
-    refused 0 (rw (ne-eqb _ _ (c .if1 .taken))) refl
+returns c = refused 0 (rw (ne-eqb _ _ (c .if1 .taken))) refl
 
 key-size-requires : tie.Need-key-size-requires
 key-size-requires c κs = search needs
@@ -95,12 +94,17 @@ sub-write-key c = search needs
 part-write-key-start : tie.Need-part-write-key-start
 part-write-key-start c = search needs
 
+seeds-lent : (c : tie.After-material) →
+    let start = c .before .before .before .before .before .before .before .before .before .before .before .before in
+    Lent (2 * start .args .p .digest) (replicate 128 0) (c .material .last .1 .1 .0)
+seeds-lent c =
+    let start = c .before .before .before .before .before .before .before .before .before .before .before .before in
+    record { fits = omega (arith, start .pre .0 .digest-fits); kept = c .material .kept .1 .1 .0 }
+
 part-write-key-end : tie.Need-part-write-key-end
 part-write-key-end c =
     let after-material = c .before .before .before .before .before .before .before .before in
-    let start = after-material .before .before .before .before .before .before .before .before .before .before .before .before in
-    lent-within _ (replicate 128 0) (after-material .material .last .1 .1 .0)
-    (omega (arith, start .pre .0 .digest-fits)) (after-material .material .kept .1 .1 .0)
+    lent-within (seeds-lent after-material)
 
 slice-reshare-prefix-write-key : tie.Need-slice-reshare-prefix-write-key
 slice-reshare-prefix-write-key c = search needs
@@ -108,7 +112,8 @@ slice-reshare-prefix-write-key c = search needs
 slice-aggregate-write-key : tie.Need-slice-aggregate-write-key
 slice-aggregate-write-key c =
     let after-material = c .before .before .before .before .before .before .before .before .before .before in
-    let start = after-material .before .before .before .before .before .before .before .before .before .before .before .before in
+    let after-if1 = after-material .before .before .before .before .before .before .before in
+    let start = after-if1 .before .before .before .before .before in
     sym (length-take-le _ _ (omega (arith, after-material .material .kept .1 .1 .1 .1 .0, start .pre .2)))
 
 array-share-prefix-es : tie.Need-array-share-prefix-es
@@ -117,7 +122,8 @@ array-share-prefix-es c = search needs
 slice-aggregate-write-key-2 : tie.Need-slice-aggregate-write-key-2
 slice-aggregate-write-key-2 c =
     let after-material = c .before .before .before .before .before .before .before .before .before .before .before in
-    let start = after-material .before .before .before .before .before .before .before .before .before .before .before .before in
+    let after-if1 = after-material .before .before .before .before .before .before .before in
+    let start = after-if1 .before .before .before .before .before in
     sym (length-take-le _ _ (omega (arith, after-material .material .kept .1 .1 .1 .1 .1 .0, start .pre .0 .n-fits)))
 
 write-key-requires : tie.Need-write-key-requires
@@ -132,8 +138,7 @@ write-key-requires c κs =
     let ok = not-false (after-material .material .result) (after-if3 .if3 .left) in
     let drawn = after-material .material .ensures .answer ∙ ap (λ (b : Bool). pick b 0 2) ok in
     let within =
-    lent-within (2 * p .digest) (replicate 128 0) (after-material .material .last .1 .1 .0)
-    (omega (arith, start .pre .0 .digest-fits)) (after-material .material .kept .1 .1 .0)
+    lent-within (seeds-lent after-material)
     in (
       start .pre .0,
       mid-len (p .digest) (2 * p .digest) _ within ∙ omega arith,

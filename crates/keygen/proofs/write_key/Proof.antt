@@ -12,7 +12,7 @@ use Rattle.packing.proofs.Below.{below}
 use Rattle.linear.specs.Linear.{syndrome}
 use Rattle.linear.proofs.Kept.{kept-below}
 use Rattle.linear.proofs.Ranges.{below-syndrome}
-use Rattle.keygen.proofs.LentParts.{lent-within, lent-length, lent-part}
+use Rattle.expand.proofs.Lent.{Lent, lent-within, lent-length, lent-part}
 use Rattle.keygen.proofs.Parts.{put-last, length-last}
 use Rattle.keygen.proofs.Made.{below-powers}
 use Rattle.keygen.proofs.write_key.Statement.{statement}
@@ -34,18 +34,18 @@ powers-requires c κs =
     let start = c .before .before .before .before .before in
     (length-take-le (start .args .p .n) (replicate 256 0) (start .pre .0 .n-fits) ∙ sym (start .pre .4), start .pre .5)
 
+x-lent : (c : tie.After-powers) →
+    let start = c .before .before .before .before .before .before in
+    Lent (start .args .p .n) (replicate 256 0) (c .powers .last .1 .0)
+x-lent c =
+    let start = c .before .before .before .before .before .before in
+    record { fits = start .pre .0 .n-fits; kept = c .powers .kept .1 .0 }
+
 array-share-prefix-x : tie.Need-array-share-prefix-x
-array-share-prefix-x c =
-    let start = c .before .before .before .before .before .before .before in
-    lent-within (start .args .p .n) (replicate 256 0) (c .before .powers .last .1 .0) (start .pre .0 .n-fits)
-    (c .before .powers .kept .1 .0)
+array-share-prefix-x c = lent-within (x-lent (c .before))
 
 slice-aggregate-syndrome : tie.Need-slice-aggregate-syndrome
-slice-aggregate-syndrome c =
-    let after-powers = c .before .before in
-    let start = after-powers .before .before .before .before .before .before in
-    lent-length (start .args .p .n) (replicate 256 0) (after-powers .powers .last .1 .0) (start .pre .0 .n-fits)
-    (after-powers .powers .kept .1 .0)
+slice-aggregate-syndrome c = lent-length (x-lent (c .before .before))
 
 array-borrow-prefix-s : tie.Need-array-borrow-prefix-s
 array-borrow-prefix-s c = search needs
@@ -65,12 +65,10 @@ syndrome-requires c κs =
     let p = start .args .p in
     let rows = length-take-le {A = ℕ} (p .n - p .k) (replicate 256 0) (rows-fit start) in
     let long =
-    lent-length (p .n) (replicate 256 0) (after-powers .powers .last .1 .0) (start .pre .0 .n-fits)
-    (after-powers .powers .kept .1 .0)
+    lent-length (x-lent after-powers)
     in
     let held =
-    lent-part (p .n) (replicate 256 0) (after-powers .powers .last .1 .0) (start .pre .0 .n-fits)
-    (after-powers .powers .kept .1 .0) ∙ after-powers .powers .ensures
+    lent-part (x-lent after-powers) ∙ after-powers .powers .ensures
     in (
       sym long ∙ omega (arith, rows, start .pre .0 .k≤n),
       start .pre .2 ∙ mul-comm (p .n - p .k) (p .k) ∙ ap (λ (r : ℕ). p .k * r) (sym rows),
@@ -92,19 +90,22 @@ copy-requires c κs =
     let start = c .before .before .before .before .before .before .before .before .before .before .before .before in
     length-take-le (start .args .p .digest) (start .args .key .now) (omega (arith, start .pre .6)) ∙ sym (start .pre .1)
 
+s-lent : (c : tie.After-syndrome) →
+    let start = c .before .before .before .before .before .before .before .before .before .before in
+    Lent (start .args .p .n - start .args .p .k) (replicate 256 0) (c .syndrome .last .1 .1 .1 .0)
+s-lent c =
+    let start = c .before .before .before .before .before .before .before .before .before .before in
+    record { fits = rows-fit start; kept = c .syndrome .kept .1 .1 .1 .0 }
+
 array-share-prefix-s : tie.Need-array-share-prefix-s
 array-share-prefix-s c =
     let after-syndrome = c .before .before .before .before .before in
-    let start = after-syndrome .before .before .before .before .before .before .before .before .before .before in
-    lent-within _ (replicate 256 0) (after-syndrome .syndrome .last .1 .1 .1 .0) (rows-fit start)
-    (after-syndrome .syndrome .kept .1 .1 .1 .0)
+    lent-within (s-lent after-syndrome)
 
 slice-aggregate-pack-values : tie.Need-slice-aggregate-pack-values
 slice-aggregate-pack-values c =
     let after-syndrome = c .before .before .before .before .before .before in
-    let start = after-syndrome .before .before .before .before .before .before .before .before .before .before in
-    lent-length _ (replicate 256 0) (after-syndrome .syndrome .last .1 .1 .1 .0) (rows-fit start)
-    (after-syndrome .syndrome .kept .1 .1 .1 .0)
+    lent-length (s-lent after-syndrome)
 
 sub-pack-values : tie.Need-sub-pack-values
 sub-pack-values c = search needs
@@ -122,12 +123,10 @@ pack-values-requires c κs =
     let start = after-syndrome .before .before .before .before .before .before .before .before .before .before in
     let p = start .args .p in
     let held =
-    lent-part (p .n - p .k) (replicate 256 0) (after-syndrome .syndrome .last .1 .1 .1 .0) (rows-fit start)
-    (after-syndrome .syndrome .kept .1 .1 .1 .0) ∙ after-syndrome .syndrome .ensures
+    lent-part (s-lent after-syndrome) ∙ after-syndrome .syndrome .ensures
     in
     let long =
-    lent-length (p .n - p .k) (replicate 256 0) (after-syndrome .syndrome .last .1 .1 .1 .0) (rows-fit start)
-    (after-syndrome .syndrome .kept .1 .1 .1 .0)
+    lent-length (s-lent after-syndrome)
     in
     let front = length-take-le (p .digest) (start .args .key .now) (omega (arith, start .pre .6)) in (
       rw held (kept-below 127 _ (below-syndrome _ _ _)),
@@ -150,12 +149,10 @@ returns c =
     let p = start .args .p in
     let front = length-take-le (p .digest) (start .args .key .now) (omega (arith, start .pre .6)) in
     let powers-held =
-    lent-part (p .n) (replicate 256 0) (after-powers .powers .last .1 .0) (start .pre .0 .n-fits)
-    (after-powers .powers .kept .1 .0) ∙ after-powers .powers .ensures
+    lent-part (x-lent after-powers) ∙ after-powers .powers .ensures
     in
     let held =
-    lent-part (p .n - p .k) (replicate 256 0) (after-syndrome .syndrome .last .1 .1 .1 .0) (rows-fit start)
-    (after-syndrome .syndrome .kept .1 .1 .1 .0)
+    lent-part (s-lent after-syndrome)
     ∙ after-syndrome .syndrome .ensures
     ∙ ap (λ (x : List ℕ). syndrome (p .k) (start .args .vs .now) x) powers-held
     in

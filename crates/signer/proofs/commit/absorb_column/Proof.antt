@@ -71,9 +71,7 @@ part-absorb-end c =
     (start .pre .2)
 
 absorb-requires : tie.Need-absorb-requires Inv-loop μ-loop
-absorb-requires c κs =
-    let at-loop = c .before .before .before in
-    at-loop .loop .inv .2 .ready
+absorb-requires c κs = c .before .before .before .loop .inv .2 .ready
 
 add-j : tie.Need-add-j Inv-loop μ-loop
 add-j c = omega arith

@@ -7,7 +7,7 @@ use borrow.Author.Needs.{needs}
 use lib.ListN.{length, replicate}
 use lib.Seq.{length-take-le}
 use Rattle.shake.specs.Shake.{shake}
-use Rattle.keygen.proofs.LentParts.{lent-within, lent-length, lent-part}
+use Rattle.expand.proofs.Lent.{Lent, lent-within, lent-length, lent-part}
 use Rattle.signer.proofs.commit.commit.Statement.{statement}
 use Rattle.signer.proofs.commit.commit.Tie as tie
 
@@ -31,8 +31,7 @@ exponents-fit c =
     omega (arith, c .packed-size2 .ensures, start .pre .4)
 
 array-borrow-prefix-values : tie.Need-array-borrow-prefix-values
-array-borrow-prefix-values c =
-    values-fit (c .before)
+array-borrow-prefix-values c = values-fit (c .before)
 
 slice-aggregate-pack-values : tie.Need-slice-aggregate-pack-values
 slice-aggregate-pack-values c =
@@ -49,9 +48,7 @@ pack-values-requires c κs =
     )
 
 array-borrow-prefix-exponents : tie.Need-array-borrow-prefix-exponents
-array-borrow-prefix-exponents c =
-    let after-packed-size2 = c .before .before .before in
-    exponents-fit after-packed-size2
+array-borrow-prefix-exponents c = exponents-fit (c .before .before .before)
 
 slice-aggregate-pack-exponents : tie.Need-slice-aggregate-pack-exponents
 slice-aggregate-pack-exponents c =
@@ -67,42 +64,39 @@ pack-exponents-requires c κs =
           (exponents-fit after-packed-size2) ∙ after-packed-size2 .packed-size2 .ensures,
     )
 
+values-lent : (c : tie.After-pack-values) →
+    let sized = c .before .before .before in
+    Lent (sized .packed-size .result) (replicate 224 0) (c .pack-values .last .1 .0)
+values-lent c = record { fits = values-fit (c .before .before .before); kept = c .pack-values .kept .1 .0 }
+
 array-share-prefix-values : tie.Need-array-share-prefix-values
-array-share-prefix-values c =
-    let after-pack-values = c .before .before .before .before in
-    let after-packed-size = after-pack-values .before .before .before in
-    lent-within (after-packed-size .packed-size .result) (replicate 224 0) (after-pack-values .pack-values .last .1 .0)
-    (values-fit after-packed-size) (after-pack-values .pack-values .kept .1 .0)
+array-share-prefix-values c = lent-within (values-lent (c .before .before .before .before))
 
 slice-aggregate-hash4 : tie.Need-slice-aggregate-hash4
 slice-aggregate-hash4 c =
     let after-pack-values = c .before .before .before .before .before in
-    let after-packed-size = after-pack-values .before .before .before in
-    lent-length (after-packed-size .packed-size .result) (replicate 224 0) (after-pack-values .pack-values .last .1 .0)
-    (values-fit after-packed-size) (after-pack-values .pack-values .kept .1 .0)
+    lent-length (values-lent after-pack-values)
+
+exponents-lent : (c : tie.After-pack-exponents) →
+    let sized = c .before .before .before .before .before in
+    Lent (sized .packed-size2 .result) (replicate 96 0) (c .pack-exponents .last .1 .0)
+exponents-lent c =
+    let sized = c .before .before .before .before .before in
+    record { fits = exponents-fit sized; kept = c .pack-exponents .kept .1 .0 }
 
 array-share-prefix-exponents : tie.Need-array-share-prefix-exponents
-array-share-prefix-exponents c =
-    let after-pack-exponents = c .before .before in
-    let after-packed-size2 = after-pack-exponents .before .before .before .before .before in
-    lent-within (after-packed-size2 .packed-size2 .result) (replicate 96 0)
-    (after-pack-exponents .pack-exponents .last .1 .0) (exponents-fit after-packed-size2)
-    (after-pack-exponents .pack-exponents .kept .1 .0)
+array-share-prefix-exponents c = lent-within (exponents-lent (c .before .before))
 
 slice-aggregate-hash4-2 : tie.Need-slice-aggregate-hash4-2
-slice-aggregate-hash4-2 c =
-    let after-pack-exponents = c .before .before .before in
-    let after-packed-size2 = after-pack-exponents .before .before .before .before .before in
-    lent-length (after-packed-size2 .packed-size2 .result) (replicate 96 0)
-    (after-pack-exponents .pack-exponents .last .1 .0) (exponents-fit after-packed-size2)
-    (after-pack-exponents .pack-exponents .kept .1 .0)
+slice-aggregate-hash4-2 c = lent-length (exponents-lent (c .before .before .before))
 
 slice-aggregate-hash4-3 : tie.Need-slice-aggregate-hash4-3
 slice-aggregate-hash4-3 c = search needs
 
 hash4-requires : tie.Need-hash4-requires
 hash4-requires c κs =
-    let after-round-number = c .before .before .before .before .before .before .before .before .before .before .before .before in
+    let after-pack-values = c .before .before .before .before .before .before .before .before in
+    let after-round-number = after-pack-values .before .before .before .before in
     let start = after-round-number .before .before .before .before .before in
     start .pre .0
 
@@ -120,14 +114,11 @@ returns c =
     let start = after-round-number .before .before .before .before .before in
     let a = start .args in
     let values =
-    lent-part (after-packed-size .packed-size .result) (replicate 224 0) (after-pack-values .pack-values .last .1 .0)
-    (values-fit after-packed-size) (after-pack-values .pack-values .kept .1 .0)
+    lent-part (values-lent after-pack-values)
     ∙ after-pack-values .pack-values .ensures
     in
     let exponents =
-    lent-part (after-packed-size2 .packed-size2 .result) (replicate 96 0)
-    (after-pack-exponents .pack-exponents .last .1 .0) (exponents-fit after-packed-size2)
-    (after-pack-exponents .pack-exponents .kept .1 .0) ∙ after-pack-exponents .pack-exponents .ensures
+    lent-part (exponents-lent after-pack-exponents) ∙ after-pack-exponents .pack-exponents .ensures
     in
     let number = after-round-number .round-number .ensures in
     after-hash4 .hash4 .ensures ∙ (λ i. shake (a .rate) (a .tag ∷ values i ++ exponents i ++ a .salt .now ++ number i)

@@ -58,13 +58,15 @@ returns-2 c =
 array-share-prefix-us : tie.Need-array-share-prefix-us
 array-share-prefix-us c =
     let after-mask-values = c .before .before in
-    let start = after-mask-values .before .before .before .before .before .before .before .before .before .before .before in
+    let after-mask-exponents = after-mask-values .before .before .before .before in
+    let start = after-mask-exponents .before .before .before .before .before .before .before in
     omega (arith, after-mask-values .mask-values .kept .1 .1 .1 .1 .0, start .pre .0 .n-fits)
 
 slice-aggregate-write-state : tie.Need-slice-aggregate-write-state
 slice-aggregate-write-state c =
     let after-mask-values = c .before .before .before in
-    let start = after-mask-values .before .before .before .before .before .before .before .before .before .before .before in
+    let after-mask-exponents = after-mask-values .before .before .before .before in
+    let start = after-mask-exponents .before .before .before .before .before .before .before in
     sym (length-take-le _ _ (omega (arith, after-mask-values .mask-values .kept .1 .1 .1 .1 .0, start .pre .0 .n-fits)))
 
 array-share-prefix-es : tie.Need-array-share-prefix-es

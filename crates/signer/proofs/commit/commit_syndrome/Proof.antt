@@ -5,7 +5,7 @@ use Prim.Native.Nat.{ℕ, _-_, _*_, _≤_}
 use native.Mathlib.Nat.{mul-comm}
 use native.Mathlib.Omega.{arith}
 use borrow.Author.Needs.{needs}
-use lib.ListN.{length, replicate, take, drop}
+use lib.ListN.{replicate, take, drop}
 use lib.Seq.{length-take-le}
 use Rattle.shake.specs.Shake.{shake}
 use Rattle.packing.specs.Packing.{pack, digits}
@@ -13,7 +13,7 @@ use Rattle.linear.specs.Linear.{transformation, scaled, syndrome}
 use Rattle.linear.proofs.Kept.{kept-below}
 use Rattle.linear.proofs.Ranges.{below-transformation, below-scaled, below-syndrome}
 use Rattle.scheme.specs.Strings.{bytesFrom, digest, string0}
-use Rattle.keygen.proofs.LentParts.{lent-within, lent-length, lent-part}
+use Rattle.expand.proofs.Lent.{Lent, lent-within, lent-length, lent-part}
 use Rattle.signer.proofs.Sponge.{rate-of}
 use Rattle.signer.proofs.commit.commit_syndrome.Statement.{statement}
 use Rattle.signer.proofs.commit.commit_syndrome.Tie as tie
@@ -27,23 +27,25 @@ array-borrow-prefix-sigma c = search needs
 rows-fit : (c : tie.Start) → c .args .p .n - c .args .p .k ≤ 256
 rows-fit c = omega (arith, c .pre .0 .n-fits)
 
+σ-lent : (c : tie.After-transform) →
+    let start = c .before .before .before .before .before .before .before .before in
+    Lent (start .args .p .n) (replicate 256 0) (c .transform .last .1 .1 .0)
+σ-lent c =
+    let start = c .before .before .before .before .before .before .before .before in
+    record { fits = start .pre .0 .n-fits; kept = c .transform .kept .1 .1 .0 }
+
 σ-held : (c : tie.After-transform) →
     let start = c .before .before .before .before .before .before .before .before in
     take (start .args .p .n) (c .transform .last .1 .1 .0 ++ drop (start .args .p .n) (replicate 256 0))
     ≡ transformation (start .args .key .now) (start .args .es .now)
-σ-held c =
-    let start = c .before .before .before .before .before .before .before .before in
-    lent-part (start .args .p .n) (replicate 256 0) (c .transform .last .1 .1 .0) (start .pre .0 .n-fits)
-    (c .transform .kept .1 .1 .0) ∙ c .transform .ensures
+σ-held c = lent-part (σ-lent c) ∙ c .transform .ensures
 
-σ-long : (c : tie.After-transform) →
-    let start = c .before .before .before .before .before .before .before .before in
-    start .args .p .n ≡ length (take (start .args .p .n)
-    (c .transform .last .1 .1 .0 ++ drop (start .args .p .n) (replicate 256 0)))
-σ-long c =
-    let start = c .before .before .before .before .before .before .before .before in
-    lent-length (start .args .p .n) (replicate 256 0) (c .transform .last .1 .1 .0) (start .pre .0 .n-fits)
-    (c .transform .kept .1 .1 .0)
+x-lent : (c : tie.After-scale) →
+    let start = c .before .before .before .before .before .before .before .before .before .before .before .before in
+    Lent (start .args .p .n) (replicate 256 0) (c .scale .last .1 .1 .0)
+x-lent c =
+    let start = c .before .before .before .before .before .before .before .before .before .before .before .before in
+    record { fits = start .pre .0 .n-fits; kept = c .scale .kept .1 .1 .0 }
 
 x-held : (c : tie.After-scale) →
     let start = c .before .before .before .before .before .before .before .before .before .before .before .before in
@@ -52,19 +54,18 @@ x-held : (c : tie.After-scale) →
 x-held c =
     let after-transform = c .before .before .before .before in
     let start = after-transform .before .before .before .before .before .before .before .before in
-    lent-part (start .args .p .n) (replicate 256 0) (c .scale .last .1 .1 .0) (start .pre .0 .n-fits)
-    (c .scale .kept .1 .1 .0)
+    lent-part (x-lent c)
     ∙ c .scale .ensures
     ∙ ap (λ (s : List ℕ). scaled s (start .args .us .now)) (σ-held after-transform)
 
-x-long : (c : tie.After-scale) →
-    let start = c .before .before .before .before .before .before .before .before .before .before .before .before in
-    start .args .p .n ≡ length (take (start .args .p .n)
-    (c .scale .last .1 .1 .0 ++ drop (start .args .p .n) (replicate 256 0)))
-x-long c =
-    let start = c .before .before .before .before .before .before .before .before .before .before .before .before in
-    lent-length (start .args .p .n) (replicate 256 0) (c .scale .last .1 .1 .0) (start .pre .0 .n-fits)
-    (c .scale .kept .1 .1 .0)
+s-lent : (c : tie.After-syndrome) →
+    let after-transform = c .before .before .before .before .before .before .before .before in
+    let start = after-transform .before .before .before .before .before .before .before .before in
+    Lent (start .args .p .n - start .args .p .k) (replicate 256 0) (c .syndrome .last .1 .1 .1 .0)
+s-lent c =
+    let after-transform = c .before .before .before .before .before .before .before .before in
+    let start = after-transform .before .before .before .before .before .before .before .before in
+    record { fits = rows-fit start; kept = c .syndrome .kept .1 .1 .1 .0 }
 
 s-held : (c : tie.After-syndrome) →
     let after-transform = c .before .before .before .before .before .before .before .before in
@@ -75,22 +76,11 @@ s-held : (c : tie.After-syndrome) →
     (scaled (transformation (start .args .key .now) (start .args .es .now)) (start .args .us .now))
 s-held c =
     let after-scale = c .before .before .before .before in
-    let start = after-scale .before .before .before .before .before .before .before .before .before .before .before .before in
-    lent-part (start .args .p .n - start .args .p .k) (replicate 256 0) (c .syndrome .last .1 .1 .1 .0) (rows-fit start)
-    (c .syndrome .kept .1 .1 .1 .0)
+    let after-transform = after-scale .before .before .before .before in
+    let start = after-transform .before .before .before .before .before .before .before .before in
+    lent-part (s-lent c)
     ∙ c .syndrome .ensures
     ∙ ap (λ (x : List ℕ). syndrome (start .args .p .k) (start .args .vs .now) x) (x-held after-scale)
-
-s-long : (c : tie.After-syndrome) →
-    let after-transform = c .before .before .before .before .before .before .before .before in
-    let start = after-transform .before .before .before .before .before .before .before .before in
-    start .args .p .n - start .args .p .k ≡ length (take (start .args .p .n - start .args .p .k)
-    (c .syndrome .last .1 .1 .1 .0 ++ drop (start .args .p .n - start .args .p .k) (replicate 256 0)))
-s-long c =
-    let after-transform = c .before .before .before .before .before .before .before .before in
-    let start = after-transform .before .before .before .before .before .before .before .before in
-    lent-length (start .args .p .n - start .args .p .k) (replicate 256 0) (c .syndrome .last .1 .1 .1 .0)
-    (rows-fit start) (c .syndrome .kept .1 .1 .1 .0)
 
 slice-aggregate-transform : tie.Need-slice-aggregate-transform
 slice-aggregate-transform c =
@@ -108,15 +98,10 @@ transform-requires c κs =
     )
 
 array-share-prefix-sigma : tie.Need-array-share-prefix-sigma
-array-share-prefix-sigma c =
-    let start = c .before .before .before .before .before .before .before .before .before in
-    lent-within (start .args .p .n) (replicate 256 0) (c .before .transform .last .1 .1 .0) (start .pre .0 .n-fits)
-    (c .before .transform .kept .1 .1 .0)
+array-share-prefix-sigma c = lent-within (σ-lent (c .before))
 
 slice-aggregate-scale : tie.Need-slice-aggregate-scale
-slice-aggregate-scale c =
-    let after-transform = c .before .before in
-    σ-long after-transform
+slice-aggregate-scale c = lent-length (σ-lent (c .before .before))
 
 array-borrow-prefix-x : tie.Need-array-borrow-prefix-x
 array-borrow-prefix-x c = search needs
@@ -131,23 +116,17 @@ scale-requires c κs =
     let after-transform = c .before .before .before in
     let start = after-transform .before .before .before .before .before .before .before .before in
     let pre = start .pre in (
-      length-take-le (start .args .p .n) (replicate 256 0) (pre .0 .n-fits) ∙ σ-long after-transform,
-      pre .3 .long ∙ σ-long after-transform,
+      length-take-le (start .args .p .n) (replicate 256 0) (pre .0 .n-fits) ∙ lent-length (σ-lent after-transform),
+      pre .3 .long ∙ lent-length (σ-lent after-transform),
       rw (σ-held after-transform) (kept-below 7 _ (below-transformation _ _)),
       pre .3 .ranged,
     )
 
 array-share-prefix-x : tie.Need-array-share-prefix-x
-array-share-prefix-x c =
-    let after-transform = c .before .before .before .before .before in
-    let start = after-transform .before .before .before .before .before .before .before .before in
-    lent-within (start .args .p .n) (replicate 256 0) (c .before .scale .last .1 .1 .0) (start .pre .0 .n-fits)
-    (c .before .scale .kept .1 .1 .0)
+array-share-prefix-x c = lent-within (x-lent (c .before))
 
 slice-aggregate-syndrome : tie.Need-slice-aggregate-syndrome
-slice-aggregate-syndrome c =
-    let after-scale = c .before .before in
-    x-long after-scale
+slice-aggregate-syndrome c = lent-length (x-lent (c .before .before))
 
 array-borrow-prefix-s : tie.Need-array-borrow-prefix-s
 array-borrow-prefix-s c = search needs
@@ -161,39 +140,32 @@ slice-aggregate-syndrome-2 c =
 syndrome-requires : tie.Need-syndrome-requires
 syndrome-requires c κs =
     let after-scale = c .before .before .before in
-    let start = after-scale .before .before .before .before .before .before .before .before .before .before .before .before in
+    let after-transform = after-scale .before .before .before .before in
+    let start = after-transform .before .before .before .before .before .before .before .before in
     let p = start .args .p in
     let rows = length-take-le {A = ℕ} (p .n - p .k) (replicate 256 0) (rows-fit start) in (
-      sym (x-long after-scale) ∙ omega (arith, rows, start .pre .0 .k≤n),
+      sym (lent-length (x-lent after-scale)) ∙ omega (arith, rows, start .pre .0 .k≤n),
       start .pre .1 .long ∙ mul-comm (p .n - p .k) (p .k) ∙ ap (λ (r : ℕ). p .k * r) (sym rows),
-      rw (sym (x-long after-scale)) (omega (arith, start .pre .0 .n-fits)),
+      rw (sym (lent-length (x-lent after-scale))) (omega (arith, start .pre .0 .n-fits)),
       start .pre .1 .ranged,
       rw (x-held after-scale) (kept-below 127 _ (below-scaled _ _)),
     )
 
 array-share-prefix-s : tie.Need-array-share-prefix-s
-array-share-prefix-s c =
-    let after-transform = c .before .before .before .before .before .before .before .before .before in
-    let start = after-transform .before .before .before .before .before .before .before .before in
-    lent-within _ (replicate 256 0) (c .before .syndrome .last .1 .1 .1 .0) (rows-fit start)
-    (c .before .syndrome .kept .1 .1 .1 .0)
+array-share-prefix-s c = lent-within (s-lent (c .before))
 
 slice-aggregate-commit : tie.Need-slice-aggregate-commit
-slice-aggregate-commit c =
-    let after-syndrome = c .before .before in
-    s-long after-syndrome
+slice-aggregate-commit c = lent-length (s-lent (c .before .before))
 
 array-share-prefix-sigma-2 : tie.Need-array-share-prefix-sigma-2
 array-share-prefix-sigma-2 c =
     let after-transform = c .before .before .before .before .before .before .before .before .before .before in
-    let start = after-transform .before .before .before .before .before .before .before .before in
-    lent-within (start .args .p .n) (replicate 256 0) (after-transform .transform .last .1 .1 .0)
-    (start .pre .0 .n-fits) (after-transform .transform .kept .1 .1 .0)
+    lent-within (σ-lent after-transform)
 
 slice-aggregate-commit-2 : tie.Need-slice-aggregate-commit-2
 slice-aggregate-commit-2 c =
     let after-transform = c .before .before .before .before .before .before .before .before .before .before .before in
-    σ-long after-transform
+    lent-length (σ-lent after-transform)
 
 commit-requires : tie.Need-commit-requires
 commit-requires c κs =
@@ -203,9 +175,9 @@ commit-requires c κs =
     let sound = start .pre .0 in (
       rate-of sound,
       rw (s-held after-syndrome) (kept-below 127 _ (below-syndrome _ _ _)),
-      rw (sym (s-long after-syndrome)) (rows-fit start),
+      rw (sym (lent-length (s-lent after-syndrome))) (rows-fit start),
       rw (σ-held after-transform) (kept-below 7 _ (below-transformation _ _)),
-      rw (sym (σ-long after-transform)) (sound .n-fits),
+      rw (sym (lent-length (σ-lent after-transform))) (sound .n-fits),
     )
 
 same-length : tie.Need-same-length

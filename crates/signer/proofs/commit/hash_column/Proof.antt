@@ -4,9 +4,7 @@ use Rattle.signer.proofs.commit.hash_column.Statement.{statement}
 use Rattle.signer.proofs.commit.hash_column.Tie as tie
 
 tagged-requires : tie.Need-tagged-requires
-tagged-requires c κs =
-    let start = c .before .before in
-    start .pre .0
+tagged-requires c κs = c .before .before .pre .0
 
 absorb-column-requires : tie.Need-absorb-column-requires
 absorb-column-requires c κs =
@@ -14,8 +12,7 @@ absorb-column-requires c κs =
     (c .tagged .ensures .ready, start .pre .1, start .pre .2)
 
 squeeze-requires : tie.Need-squeeze-requires
-squeeze-requires c κs =
-    c .before .absorb-column .ensures .ready
+squeeze-requires c κs = c .before .absorb-column .ensures .ready
 
 same-length : tie.Need-same-length
 same-length c = search needs

@@ -9,7 +9,7 @@ use lib.Seq.{length-take-le}
 use Rattle.outcome.specs.Lists.{flat}
 use Rattle.shake.specs.Shake.{shake}
 use Rattle.scheme.specs.Strings.{bytesFrom, digest, string4, string5, joined}
-use Rattle.keygen.proofs.LentParts.{lent-within, lent-length, lent-hash}
+use Rattle.expand.proofs.Lent.{Lent, lent-within, lent-length, lent-hash}
 use Rattle.signer.specs.State.{columnAt}
 use Rattle.signer.proofs.Sponge.{rate-of}
 use Rattle.signer.proofs.commit.join_states.Statement.{statement}
@@ -42,21 +42,18 @@ hash-column-requires c κs =
       omega (arith, size-is),
     )
 
+c1-lent : (c : tie.After-hash-column) →
+    let start = c .before .before .before .before .before .before .before in
+    Lent (start .args .p .digest) (replicate 64 0) (c .hash-column .last .1 .1 .1 .1 .0)
+c1-lent c =
+    let start = c .before .before .before .before .before .before .before in
+    record { fits = start .pre .0 .digest-fits; kept = c .hash-column .kept .1 .1 .1 .1 .0 }
+
 array-share-prefix-c1 : tie.Need-array-share-prefix-c1
-array-share-prefix-c1 c =
-    let after-hash = c .before in
-    let start = after-hash .before .before .before .before .before .before .before in
-    let made = after-hash .hash-column in
-    lent-within (start .args .p .digest) (replicate 64 0) (made .last .1 .1 .1 .1 .0) (start .pre .0 .digest-fits)
-    (made .kept .1 .1 .1 .1 .0)
+array-share-prefix-c1 c = lent-within (c1-lent (c .before))
 
 slice-aggregate-hash2 : tie.Need-slice-aggregate-hash2
-slice-aggregate-hash2 c =
-    let after-hash = c .before .before in
-    let start = after-hash .before .before .before .before .before .before .before in
-    let made = after-hash .hash-column in
-    lent-length (start .args .p .digest) (replicate 64 0) (made .last .1 .1 .1 .1 .0) (start .pre .0 .digest-fits)
-    (made .kept .1 .1 .1 .1 .0)
+slice-aggregate-hash2 c = lent-length (c1-lent (c .before .before))
 
 hash2-requires : tie.Need-hash2-requires
 hash2-requires c κs =
@@ -78,8 +75,7 @@ returns c =
     let made = after-hash .hash-column in
     let size-is = sized .state-size .ensures in
     let c1 =
-    lent-hash (p .digest) (replicate 64 0) (made .last .1 .1 .1 .1 .0) (start .pre .0 .digest-fits)
-    (made .kept .1 .1 .1 .1 .0)
+    lent-hash (c1-lent after-hash)
     (p .rate) _ (made .ensures)
     ∙ (λ i. shake (p .rate) (4 ∷ flat (columnAt (size-is i) (2 * p .n + p .digest) (p .digest) (a .states .now)) (p .t))
     (p .digest))

@@ -8,7 +8,7 @@ use lib.ListN.{replicate}
 use lib.Seq.{length-take-le}
 use Rattle.shake.specs.Shake.{shake}
 use Rattle.scheme.specs.Strings.{bytesFrom, digest, string2}
-use Rattle.keygen.proofs.LentParts.{lent-within, lent-length, lent-part, lent-hash}
+use Rattle.expand.proofs.Lent.{Lent, lent-within, lent-length, lent-part, lent-hash}
 use Rattle.signer.proofs.Sponge.{absorbs-to, rate-of}
 use Rattle.signer.proofs.respond.absorb_response.Statement.{statement}
 use Rattle.signer.proofs.respond.absorb_response.Tie as tie
@@ -17,13 +17,10 @@ packed-size-requires : tie.Need-packed-size-requires
 packed-size-requires c κs = search needs
 
 packed-fits : (c : tie.After-packed-size) → c .packed-size .result ≤ 224
-packed-fits c =
-    let start = c .before .before in
-    omega (arith, c .packed-size .ensures, start .pre .0 .n-fits)
+packed-fits c = omega (arith, c .packed-size .ensures, c .before .before .pre .0 .n-fits)
 
 array-borrow-prefix-packed : tie.Need-array-borrow-prefix-packed
-array-borrow-prefix-packed c =
-    packed-fits c
+array-borrow-prefix-packed c = packed-fits c
 
 slice-aggregate-pack-response : tie.Need-slice-aggregate-pack-response
 slice-aggregate-pack-response c =
@@ -39,19 +36,16 @@ pack-response-requires c κs =
           ∙ c .before .packed-size .ensures,
     )
 
+packed-lent : (c : tie.After-pack-response) →
+    let sized = c .before .before in
+    Lent (sized .packed-size .result) (replicate 224 0) (c .pack-response .last .1 .1 .1 .0)
+packed-lent c = record { fits = packed-fits (c .before .before); kept = c .pack-response .kept .1 .1 .1 .0 }
+
 array-share-prefix-packed : tie.Need-array-share-prefix-packed
-array-share-prefix-packed c =
-    let after-packed-size = c .before .before .before in
-    lent-within (after-packed-size .packed-size .result) (replicate 224 0) (c .before .pack-response .last .1 .1 .1 .0)
-    (packed-fits after-packed-size) (c .before .pack-response .kept .1 .1 .1 .0)
+array-share-prefix-packed c = lent-within (packed-lent (c .before))
 
 slice-aggregate-hash1 : tie.Need-slice-aggregate-hash1
-slice-aggregate-hash1 c =
-    let after-pack-response = c .before .before in
-    let after-packed-size = after-pack-response .before .before in
-    lent-length (after-packed-size .packed-size .result) (replicate 224 0)
-    (after-pack-response .pack-response .last .1 .1 .1 .0) (packed-fits after-packed-size)
-    (after-pack-response .pack-response .kept .1 .1 .1 .0)
+slice-aggregate-hash1 c = lent-length (packed-lent (c .before .before))
 
 array-borrow-prefix-hashed : tie.Need-array-borrow-prefix-hashed
 array-borrow-prefix-hashed c = search needs
@@ -66,18 +60,18 @@ hash1-requires c κs =
     let start = c .before .before .before .before .before .before .before in
     rate-of (start .pre .0)
 
+hashed-lent : (c : tie.After-hash1) →
+    let start = c .before .before .before .before .before .before .before .before in
+    Lent (start .args .p .digest) (replicate 64 0) (c .hash1 .last .1 .1 .1 .0)
+hashed-lent c =
+    let start = c .before .before .before .before .before .before .before .before in
+    record { fits = start .pre .0 .digest-fits; kept = c .hash1 .kept .1 .1 .1 .0 }
+
 array-share-prefix-hashed : tie.Need-array-share-prefix-hashed
-array-share-prefix-hashed c =
-    let start = c .before .before .before .before .before .before .before .before .before in
-    lent-within (start .args .p .digest) (replicate 64 0) (c .before .hash1 .last .1 .1 .1 .0)
-    (start .pre .0 .digest-fits) (c .before .hash1 .kept .1 .1 .1 .0)
+array-share-prefix-hashed c = lent-within (hashed-lent (c .before))
 
 slice-aggregate-absorb : tie.Need-slice-aggregate-absorb
-slice-aggregate-absorb c =
-    let after-hash1 = c .before .before in
-    let start = after-hash1 .before .before .before .before .before .before .before .before in
-    lent-length (start .args .p .digest) (replicate 64 0) (after-hash1 .hash1 .last .1 .1 .1 .0)
-    (start .pre .0 .digest-fits) (after-hash1 .hash1 .kept .1 .1 .1 .0)
+slice-aggregate-absorb c = lent-length (hashed-lent (c .before .before))
 
 absorb-requires : tie.Need-absorb-requires
 absorb-requires c κs =
@@ -93,13 +87,10 @@ returns c =
     let start = after-packed-size .before .before in
     let p = start .args .p in
     let packed =
-    lent-part (after-packed-size .packed-size .result) (replicate 224 0)
-    (after-pack-response .pack-response .last .1 .1 .1 .0) (packed-fits after-packed-size)
-    (after-pack-response .pack-response .kept .1 .1 .1 .0) ∙ after-pack-response .pack-response .ensures
+    lent-part (packed-lent after-pack-response) ∙ after-pack-response .pack-response .ensures
     in
     absorbs-to (c .absorb .ensures)
-    (lent-hash (p .digest) (replicate 64 0) (after-hash1 .hash1 .last .1 .1 .1 .0) (start .pre .0 .digest-fits)
-    (after-hash1 .hash1 .kept .1 .1 .1 .0) (p .rate) _ (after-hash1 .hash1 .ensures)
+    (lent-hash (hashed-lent after-hash1) (p .rate) _ (after-hash1 .hash1 .ensures)
     ∙ ap (λ (y : List ℕ). shake (p .rate) (2 ∷ y) (p .digest)) packed)
 
 pub absorb-response-spec : {M : Type 1} → statement M

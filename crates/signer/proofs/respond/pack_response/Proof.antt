@@ -10,7 +10,7 @@ use Rattle.packing.specs.Packing.{pack, size}
 use Rattle.linear.specs.Linear.{response}
 use Rattle.linear.proofs.Kept.{kept-below}
 use Rattle.linear.proofs.Ranges.{below-response}
-use Rattle.keygen.proofs.LentParts.{lent-within, lent-length, lent-part}
+use Rattle.expand.proofs.Lent.{Lent, lent-within, lent-length, lent-part}
 use Rattle.signer.specs.State.{responseOf, valuesOf, exponentsOf}
 use Rattle.signer.proofs.Loops.{cut}
 use Rattle.signer.proofs.respond.pack_response.Statement.{statement}
@@ -20,9 +20,7 @@ add-both : tie.Need-add-both
 add-both c = search needs
 
 slice-aggregate-respond : tie.Need-slice-aggregate-respond
-slice-aggregate-respond c =
-    let start = c .before .before .before in
-    sym (start .pre .2 .values .long)
+slice-aggregate-respond c = sym (c .before .before .before .pre .2 .values .long)
 
 sub-respond : tie.Need-sub-respond
 sub-respond c = search needs
@@ -31,9 +29,7 @@ part-respond-start : tie.Need-part-respond-start
 part-respond-start c = search needs
 
 part-respond-end : tie.Need-part-respond-end
-part-respond-end c =
-    let start = c .before .before .before in
-    omega (arith, start .pre .2 .sized)
+part-respond-end c = omega (arith, c .before .before .before .pre .2 .sized)
 
 array-borrow-prefix-y : tie.Need-array-borrow-prefix-y
 array-borrow-prefix-y c = search needs
@@ -59,31 +55,28 @@ respond-requires c κs =
       rw (exponents-are start) (pre .2 .exponents .ranged),
     )
 
+y-lent : (c : tie.After-respond) →
+    let start = c .before .before .before .before .before .before in
+    Lent (start .args .p .n) (replicate 256 0) (c .respond .last .1 .1 .1 .0)
+y-lent c =
+    let start = c .before .before .before .before .before .before in
+    record { fits = start .pre .0 .n-fits; kept = c .respond .kept .1 .1 .1 .0 }
+
 array-share-prefix-y : tie.Need-array-share-prefix-y
-array-share-prefix-y c =
-    let start = c .before .before .before .before .before .before .before in
-    lent-within (start .args .p .n) (replicate 256 0) (c .before .respond .last .1 .1 .1 .0) (start .pre .0 .n-fits)
-    (c .before .respond .kept .1 .1 .1 .0)
+array-share-prefix-y c = lent-within (y-lent (c .before))
 
 slice-aggregate-pack-values : tie.Need-slice-aggregate-pack-values
-slice-aggregate-pack-values c =
-    let after-respond = c .before .before in
-    let start = after-respond .before .before .before .before .before .before in
-    lent-length (start .args .p .n) (replicate 256 0) (after-respond .respond .last .1 .1 .1 .0) (start .pre .0 .n-fits)
-    (after-respond .respond .kept .1 .1 .1 .0)
+slice-aggregate-pack-values c = lent-length (y-lent (c .before .before))
 
 pack-values-requires : tie.Need-pack-values-requires
 pack-values-requires c κs =
     let after-respond = c .before .before .before in
     let start = after-respond .before .before .before .before .before .before in
-    let n = start .args .p .n in
     let held =
-    lent-part n (replicate 256 0) (after-respond .respond .last .1 .1 .1 .0) (start .pre .0 .n-fits)
-    (after-respond .respond .kept .1 .1 .1 .0) ∙ after-respond .respond .ensures
+    lent-part (y-lent after-respond) ∙ after-respond .respond .ensures
     in
     let long =
-    lent-length n (replicate 256 0) (after-respond .respond .last .1 .1 .1 .0) (start .pre .0 .n-fits)
-    (after-respond .respond .kept .1 .1 .1 .0)
+    lent-length (y-lent after-respond)
     in (
       rw held (kept-below 127 _ (below-response _ _ _)),
       start .pre .3 ∙ ap (λ (k : ℕ). size 7 k) long,
@@ -99,8 +92,7 @@ returns c =
     let after-respond = after-pack-values .before .before .before .before in
     let start = after-respond .before .before .before .before .before .before in
     let a = start .args in
-    let held = lent-part (a .p .n) (replicate 256 0) (after-respond .respond .last .1 .1 .1 .0) (start .pre .0 .n-fits)
-    (after-respond .respond .kept .1 .1 .1 .0) ∙ after-respond .respond .ensures
+    let held = lent-part (y-lent after-respond) ∙ after-respond .respond .ensures
     ∙ ap (λ (es : List ℕ). response (a .beta .0) (valuesOf (a .p) (a .state .now)) es) (exponents-are start) in
     after-pack-values .pack-values .ensures ∙ ap (λ (y : List ℕ). pack 7 y) held
 

@@ -27,9 +27,7 @@ state-size-requires : tie.Need-state-size-requires Inv-loop μ-loop
 state-size-requires c κs = search needs
 
 tagged-requires : tie.Need-tagged-requires Inv-loop μ-loop
-tagged-requires c κs =
-    let start = c .before .before .before .before in
-    rate-of (start .pre .0)
+tagged-requires c κs = rate-of (c .before .before .before .before .pre .0)
 
 loop-holds : tie.Need-loop-holds Inv-loop μ-loop
 unfolding flat
@@ -123,9 +121,7 @@ loop-again c =
     )
 
 squeeze-requires : tie.Need-squeeze-requires Inv-loop μ-loop
-squeeze-requires c κs =
-    let at-loop = c .before .before in
-    at-loop .loop .inv .2 .ready
+squeeze-requires c κs = c .before .before .loop .inv .2 .ready
 
 same-length : tie.Need-same-length Inv-loop μ-loop
 same-length c = c .before .before .squeeze .kept .1 .0

@@ -13,7 +13,7 @@ use Rattle.outcome.proofs.Checks.{refused, done}
 use Rattle.scheme.specs.Sign.{secondDrawn, secondChallenges}
 use Rattle.scheme.specs.Verify.{offset}
 use Rattle.scheme.proofs.Challenges.{second-fills}
-use Rattle.keygen.proofs.LentParts.{lent-within, lent-length, lent-part}
+use Rattle.expand.proofs.Lent.{Lent, lent-within, lent-length, lent-part}
 use Rattle.signer.specs.State.{hOf, partAt}
 use Rattle.signer.proofs.sign.reply.Statement.{statement}
 use Rattle.signer.proofs.sign.reply.Tie as tie
@@ -21,23 +21,18 @@ use Rattle.signer.proofs.sign.reply.Tie as tie
 array-borrow-prefix-h : tie.Need-array-borrow-prefix-h
 array-borrow-prefix-h c = search needs
 
+h-lent : (c : tie.After-respond-all) →
+    let start = c .before .before .before .before .before .before .before .before .before .before in
+    Lent (start .args .p .digest) (replicate 64 0) (c .respond-all .last .1 .1 .1 .0)
+h-lent c =
+    let start = c .before .before .before .before .before .before .before .before .before .before in
+    record { fits = start .pre .0 .0 .digest-fits; kept = c .respond-all .kept .1 .1 .1 .0 }
+
 h-held : (c : tie.After-respond-all) →
     let start = c .before .before .before .before .before .before .before .before .before .before in
     take (start .args .p .digest) (c .respond-all .last .1 .1 .1 .0 ++ drop (start .args .p .digest) (replicate 64 0))
     ≡ hOf (start .args .p) (start .args .states .now) (start .args .betas .now)
-h-held c =
-    let start = c .before .before .before .before .before .before .before .before .before .before in
-    lent-part (start .args .p .digest) (replicate 64 0) (c .respond-all .last .1 .1 .1 .0)
-    (start .pre .0 .0 .digest-fits) (c .respond-all .kept .1 .1 .1 .0) ∙ c .respond-all .ensures
-
-h-long : (c : tie.After-respond-all) →
-    let start = c .before .before .before .before .before .before .before .before .before .before in
-    start .args .p .digest ≡ length (take (start .args .p .digest)
-    (c .respond-all .last .1 .1 .1 .0 ++ drop (start .args .p .digest) (replicate 64 0)))
-h-long c =
-    let start = c .before .before .before .before .before .before .before .before .before .before in
-    lent-length (start .args .p .digest) (replicate 64 0) (c .respond-all .last .1 .1 .1 .0)
-    (start .pre .0 .0 .digest-fits) (c .respond-all .kept .1 .1 .1 .0)
+h-held c = lent-part (h-lent c) ∙ c .respond-all .ensures
 
 slice-aggregate-respond-all : tie.Need-slice-aggregate-respond-all
 slice-aggregate-respond-all c =
@@ -55,15 +50,10 @@ respond-all-requires c κs =
     )
 
 array-share-prefix-h : tie.Need-array-share-prefix-h
-array-share-prefix-h c =
-    let start = c .before .before .before .before .before .before .before .before .before .before .before in
-    lent-within (start .args .p .digest) (replicate 64 0) (c .before .respond-all .last .1 .1 .1 .0)
-    (start .pre .0 .0 .digest-fits) (c .before .respond-all .kept .1 .1 .1 .0)
+array-share-prefix-h c = lent-within (h-lent (c .before))
 
 slice-aggregate-second-challenges : tie.Need-slice-aggregate-second-challenges
-slice-aggregate-second-challenges c =
-    let after-respond-all = c .before .before in
-    h-long after-respond-all
+slice-aggregate-second-challenges c = lent-length (h-lent (c .before .before))
 
 array-borrow-prefix-bs : tie.Need-array-borrow-prefix-bs
 array-borrow-prefix-bs c =
@@ -99,6 +89,15 @@ returns c =
     ∙ not-true (after-second-challenges .second-challenges .result) (c .if1 .taken) in
     refused 1 (rw short) refl
 
+b-lent : (c : tie.After-second-challenges) →
+    let after-respond-all = c .before .before .before .before in
+    let start = after-respond-all .before .before .before .before .before .before .before .before .before .before in
+    Lent (start .args .p .t) (replicate 512 0) (c .second-challenges .last .1 .1 .1 .1 .1 .1 .0)
+b-lent c =
+    let after-respond-all = c .before .before .before .before in
+    let start = after-respond-all .before .before .before .before .before .before .before .before .before .before in
+    record { fits = start .pre .0 .0 .t-fits; kept = c .second-challenges .kept .1 .1 .1 .1 .1 .1 .0 }
+
 -- the second challenges, where they are drawn
 b-held : (c : tie.Else1) →
     let after-second-challenges = c .before .before in
@@ -118,8 +117,7 @@ b-held c =
     after-second-challenges .second-challenges .kept .1 .1 .1 .1 .1 .1 .0
     ∙ length-take-le {A = ℕ} (a .p .t) (replicate 512 0) (start .pre .0 .0 .t-fits)
     in
-    lent-part (a .p .t) (replicate 512 0) (after-second-challenges .second-challenges .last .1 .1 .1 .1 .1 .1 .0)
-    (start .pre .0 .0 .t-fits) (after-second-challenges .second-challenges .kept .1 .1 .1 .1 .1 .1 .0)
+    lent-part (b-lent after-second-challenges)
     ∙ sym (take-all (a .p .t) (after-second-challenges .second-challenges .last .1 .1 .1 .1 .1 .1 .0) (omega arith))
     ∙ after-second-challenges .second-challenges .ensures .content
     (not-false (after-second-challenges .second-challenges .result) (c .if1 .left))
@@ -129,32 +127,18 @@ b-held c =
 array-share-prefix-h-2 : tie.Need-array-share-prefix-h-2
 array-share-prefix-h-2 c =
     let after-respond-all = c .before .before .before .before .before .before in
-    let start = after-respond-all .before .before .before .before .before .before .before .before .before .before in
-    lent-within (start .args .p .digest) (replicate 64 0) (after-respond-all .respond-all .last .1 .1 .1 .0)
-    (start .pre .0 .0 .digest-fits) (after-respond-all .respond-all .kept .1 .1 .1 .0)
+    lent-within (h-lent after-respond-all)
 
 slice-aggregate-write-signature : tie.Need-slice-aggregate-write-signature
 slice-aggregate-write-signature c =
     let after-respond-all = c .before .before .before .before .before .before .before in
-    h-long after-respond-all
+    lent-length (h-lent after-respond-all)
 
 array-share-prefix-bs : tie.Need-array-share-prefix-bs
-array-share-prefix-bs c =
-    let after-second-challenges = c .before .before .before in
-    let after-respond-all = after-second-challenges .before .before .before .before in
-    let start = after-respond-all .before .before .before .before .before .before .before .before .before .before in
-    lent-within (start .args .p .t) (replicate 512 0)
-    (after-second-challenges .second-challenges .last .1 .1 .1 .1 .1 .1 .0) (start .pre .0 .0 .t-fits)
-    (after-second-challenges .second-challenges .kept .1 .1 .1 .1 .1 .1 .0)
+array-share-prefix-bs c = lent-within (b-lent (c .before .before .before))
 
 slice-aggregate-write-signature-2 : tie.Need-slice-aggregate-write-signature-2
-slice-aggregate-write-signature-2 c =
-    let after-second-challenges = c .before .before .before .before in
-    let after-respond-all = after-second-challenges .before .before .before .before in
-    let start = after-respond-all .before .before .before .before .before .before .before .before .before .before in
-    lent-length (start .args .p .t) (replicate 512 0)
-    (after-second-challenges .second-challenges .last .1 .1 .1 .1 .1 .1 .0) (start .pre .0 .0 .t-fits)
-    (after-second-challenges .second-challenges .kept .1 .1 .1 .1 .1 .1 .0)
+slice-aggregate-write-signature-2 c = lent-length (b-lent (c .before .before .before .before))
 
 write-signature-requires : tie.Need-write-signature-requires
 write-signature-requires c κs =
@@ -170,11 +154,9 @@ write-signature-requires c κs =
     in (
       pre .0,
       (
-        (pre .1 .1, pre .1 .0, sym (h-long after-respond-all)),
+        (pre .1 .1, pre .1 .0, sym (lent-length (h-lent after-respond-all))),
         (
-          sym (lent-length (a .p .t) (replicate 512 0)
-              (after-second-challenges .second-challenges .last .1 .1 .1 .1 .1 .1 .0) (pre .0 .0 .t-fits)
-              (after-second-challenges .second-challenges .kept .1 .1 .1 .1 .1 .1 .0)),
+          sym (lent-length (b-lent after-second-challenges)),
           pre .1 .2 ∙ add-assoc (3 * a .p .digest) _ _ ∙ ap (λ (n : ℕ). 3 * a .p .digest + n) (sym all),
         ),
       ),

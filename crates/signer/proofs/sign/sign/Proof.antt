@@ -40,8 +40,7 @@ right : (c : tie.Else1) →
     let start = c .before .before .before .before .before .before .before .before .before .before .before in
     firstRefusal (signSizes (start .args .p) (start .args .private .now) (start .args .master .now)
     (start .args .salt .now) (start .args .msg .now) (length (start .args .sig .now))) ≡ 0
-right c =
-    sym (c .before .check-sizes .ensures) ∙ c .if1 .left
+right c = sym (c .before .check-sizes .ensures) ∙ c .if1 .left
 
 mul-both : tie.Need-mul-both
 mul-both c =

@@ -1,4 +1,4 @@
--- `sign_with`: the seeds and the states are those of the definitions, and so is what follows from them. Assumes nothing.
+-- `sign_with`: seeds and states are those of the definitions, and so is what follows from them. Assumes nothing.
 use mathlib.Core.Path.{_≡_, refl, _∙_, ap, sym}
 use mathlib.Core.Bool.{Bool}
 use mathlib.Core.List.{List, _∷_, _++_}
@@ -6,7 +6,7 @@ use Prim.Native.Nat.{ℕ}
 use native.Mathlib.Omega.{arith}
 use borrow.Author.Needs.{needs}
 use borrow.Author.Tests.{not-true, not-false}
-use lib.ListN.{length, replicate, take, drop}
+use lib.ListN.{replicate, take, drop}
 use lib.Seq.{length-take-le}
 use Rattle.outcome.specs.Answer.{firstRefusal, pick}
 use Rattle.outcome.specs.Lists.{flat}
@@ -17,7 +17,7 @@ use Rattle.scheme.specs.Strings.{bytesFrom, string9, joined}
 use Rattle.scheme.specs.Sign.{roundSeeds, seedDraws}
 use Rattle.scheme.specs.Sign as sign
 use Rattle.scheme.proofs.Challenges.{below-first}
-use Rattle.keygen.proofs.LentParts.{lent-within, lent-length, lent-part}
+use Rattle.expand.proofs.Lent.{Lent, lent-within, lent-length, lent-part}
 use Rattle.signer.specs.State.{seedAt, c1s, roundState}
 use Rattle.signer.proofs.Signed.{states-good, root-is, c-is, rounds-short, first-short, replied, seeded}
 use Rattle.signer.proofs.Sponge.{rate-of}
@@ -61,6 +61,15 @@ states-are c =
     let after-commit-all = c .before .before .before in
     after-commit-all .commit-all .ensures .content (not-false (after-commit-all .commit-all .result) (c .if1 .left))
 
+root-lent : (c : tie.After-aggregate-states) →
+    let after-hash2 = c .before .before .before .before .before .before .before .before .before .before .before in
+    let start = after-hash2 .before .before .before .before .before .before .before .before .before .before in
+    Lent (start .args .p .digest) (replicate 64 0) (c .aggregate-states .last .1 .1 .0)
+root-lent c =
+    let after-hash2 = c .before .before .before .before .before .before .before .before .before .before .before in
+    let start = after-hash2 .before .before .before .before .before .before .before .before .before .before in
+    record { fits = start .pre .0 .0 .digest-fits; kept = c .aggregate-states .kept .1 .1 .0 }
+
 -- the aggregate, as it is lent
 root-held : (c : tie.After-aggregate-states) →
     let after-hash2 = c .before .before .before .before .before .before .before .before .before .before .before in
@@ -73,16 +82,27 @@ root-held c =
     let start = after-hash2 .before .before .before .before .before .before .before .before .before .before in
     let a = start .args in
     let made = c .aggregate-states in
-    lent-part (a .p .digest) (replicate 64 0) (made .last .1 .1 .0) (start .pre .0 .0 .digest-fits)
-    (made .kept .1 .1 .0)
+    lent-part (root-lent c)
     ∙ made .ensures
     ∙ root-is (a .p) (start .pre .0 .0) (a .vs .now) (a .key .now) (seed after-hash2) (a .salt .now) (drawn after-if1)
     (states-are after-if1)
 
+c-lent : (c : tie.After-join-states) →
+    let after-commit-all = c .before .before .before .before .before .before .before .before .before .before .before in
+    let after-hash2 = after-commit-all .before .before .before .before .before in
+    let start = after-hash2 .before .before .before .before .before .before .before .before .before .before in
+    Lent (start .args .p .digest) (replicate 64 0) (c .join-states .last .1 .1 .1 .0)
+c-lent c =
+    let after-commit-all = c .before .before .before .before .before .before .before .before .before .before .before in
+    let after-hash2 = after-commit-all .before .before .before .before .before in
+    let start = after-hash2 .before .before .before .before .before .before .before .before .before .before in
+    record { fits = start .pre .0 .0 .digest-fits; kept = c .join-states .kept .1 .1 .1 .0 }
+
 -- c, as it is lent
 c-held : (c : tie.After-join-states) →
     let after-root = c .before .before .before .before .before in
-    let after-hash2 = after-root .before .before .before .before .before .before .before .before .before .before .before in
+    let after-commit-all = after-root .before .before .before .before .before .before in
+    let after-hash2 = after-commit-all .before .before .before .before .before in
     let a = after-hash2 .before .before .before .before .before .before .before .before .before .before .args in
     take (a .p .digest) (c .join-states .last .1 .1 .1 .0 ++ drop (a .p .digest) (replicate 64 0))
     ≡ sign.c (a .p) (seed after-hash2) (a .salt .now)
@@ -96,27 +116,11 @@ c-held c =
     let a = start .args in
     let made = c .join-states in
     let root = root-held after-root in
-    lent-part (a .p .digest) (replicate 64 0) (made .last .1 .1 .1 .0) (start .pre .0 .0 .digest-fits)
-    (made .kept .1 .1 .1 .0)
+    lent-part (c-lent c)
     ∙ made .ensures
     ∙ (λ i. joined (a .p) (root i) (c1s (a .p) (after-commit-all .commit-all .last .1 .1 .1 .1 .1 .0)))
     ∙ c-is (a .p) (start .pre .0 .0) (a .vs .now) (a .key .now) (seed after-hash2) (a .salt .now) (drawn after-if1)
     (states-are after-if1) _
-
-c-long : (c : tie.After-join-states) →
-    let after-commit-all = c .before .before .before .before .before .before .before .before .before .before .before in
-    let after-hash2 = after-commit-all .before .before .before .before .before in
-    let start = after-hash2 .before .before .before .before .before .before .before .before .before .before in
-    start .args .p .digest
-    ≡ length (take (start .args .p .digest) (c .join-states .last .1 .1 .1 .0
-    ++ drop (start .args .p .digest) (replicate 64 0)))
-c-long c =
-    let after-commit-all = c .before .before .before .before .before .before .before .before .before .before .before in
-    let after-hash2 = after-commit-all .before .before .before .before .before in
-    let start = after-hash2 .before .before .before .before .before .before .before .before .before .before in
-    lent-length (start .args .p .digest) (replicate 64 0) (c .join-states .last .1 .1 .1 .0)
-    (start .pre .0 .0 .digest-fits)
-    (c .join-states .kept .1 .1 .1 .0)
 
 hash2-requires : tie.Need-hash2-requires
 hash2-requires c κs =
@@ -175,22 +179,10 @@ aggregate-states-requires c κs =
     )
 
 array-share-prefix-root : tie.Need-array-share-prefix-root
-array-share-prefix-root c =
-    let after-root = c .before in
-    let after-hash2 = after-root .before .before .before .before .before .before .before .before .before .before .before in
-    let start = after-hash2 .before .before .before .before .before .before .before .before .before .before in
-    let made = after-root .aggregate-states in
-    lent-within (start .args .p .digest) (replicate 64 0) (made .last .1 .1 .0) (start .pre .0 .0 .digest-fits)
-    (made .kept .1 .1 .0)
+array-share-prefix-root c = lent-within (root-lent (c .before))
 
 slice-aggregate-join-states : tie.Need-slice-aggregate-join-states
-slice-aggregate-join-states c =
-    let after-root = c .before .before in
-    let after-hash2 = after-root .before .before .before .before .before .before .before .before .before .before .before in
-    let start = after-hash2 .before .before .before .before .before .before .before .before .before .before in
-    let made = after-root .aggregate-states in
-    lent-length (start .args .p .digest) (replicate 64 0) (made .last .1 .1 .0) (start .pre .0 .0 .digest-fits)
-    (made .kept .1 .1 .0)
+slice-aggregate-join-states c = lent-length (root-lent (c .before .before))
 
 array-borrow-prefix-c : tie.Need-array-borrow-prefix-c
 array-borrow-prefix-c c = search needs
@@ -213,17 +205,10 @@ join-states-requires c κs =
     )
 
 array-share-prefix-c : tie.Need-array-share-prefix-c
-array-share-prefix-c c =
-    let after-c = c .before in
-    let after-commit-all = after-c .before .before .before .before .before .before .before .before .before .before .before in
-    let after-hash2 = after-commit-all .before .before .before .before .before in
-    let start = after-hash2 .before .before .before .before .before .before .before .before .before .before in
-    let made = after-c .join-states in
-    lent-within (start .args .p .digest) (replicate 64 0) (made .last .1 .1 .1 .0) (start .pre .0 .0 .digest-fits)
-    (made .kept .1 .1 .1 .0)
+array-share-prefix-c c = lent-within (c-lent (c .before))
 
 slice-aggregate-first-challenges : tie.Need-slice-aggregate-first-challenges
-slice-aggregate-first-challenges c = c-long (c .before .before)
+slice-aggregate-first-challenges c = lent-length (c-lent (c .before .before))
 
 slice-aggregate-first-challenges-2 : tie.Need-slice-aggregate-first-challenges-2
 slice-aggregate-first-challenges-2 c = search needs
@@ -260,20 +245,17 @@ returns-2 c =
 array-share-prefix-c-2 : tie.Need-array-share-prefix-c-2
 array-share-prefix-c-2 c =
     let after-c = c .before .before .before .before .before .before .before .before in
-    let after-commit-all = after-c .before .before .before .before .before .before .before .before .before .before .before in
-    let after-hash2 = after-commit-all .before .before .before .before .before in
-    let start = after-hash2 .before .before .before .before .before .before .before .before .before .before in
-    let made = after-c .join-states in
-    lent-within (start .args .p .digest) (replicate 64 0) (made .last .1 .1 .1 .0) (start .pre .0 .0 .digest-fits)
-    (made .kept .1 .1 .1 .0)
+    lent-within (c-lent after-c)
 
 slice-aggregate-reply : tie.Need-slice-aggregate-reply
-slice-aggregate-reply c = c-long (c .before .before .before .before .before .before .before .before .before)
+slice-aggregate-reply c = lent-length
+    (c-lent (c .before .before .before .before .before .before .before .before .before))
 
 array-share-prefix-betas : tie.Need-array-share-prefix-betas
 array-share-prefix-betas c =
     let after-first = c .before .before .before .before .before in
-    let after-if1 = after-first .before .before .before .before .before .before .before .before .before .before .before .before in
+    let after-aggregate-states = after-first .before .before .before .before .before .before .before .before .before in
+    let after-if1 = after-aggregate-states .before .before .before in
     let after-hash2 = after-if1 .before .before .before .before .before .before .before .before in
     let start = after-hash2 .before .before .before .before .before .before .before .before .before .before in
     omega (arith, after-first .first-challenges .kept .1 .1 .1 .1 .0, start .pre .0 .0 .t-fits)
@@ -281,7 +263,8 @@ array-share-prefix-betas c =
 slice-aggregate-reply-2 : tie.Need-slice-aggregate-reply-2
 slice-aggregate-reply-2 c =
     let after-first = c .before .before .before .before .before .before in
-    let after-if1 = after-first .before .before .before .before .before .before .before .before .before .before .before .before in
+    let after-aggregate-states = after-first .before .before .before .before .before .before .before .before .before in
+    let after-if1 = after-aggregate-states .before .before .before in
     let after-hash2 = after-if1 .before .before .before .before .before .before .before .before in
     let start = after-hash2 .before .before .before .before .before .before .before .before .before .before in
     sym (length-take-le _ _
@@ -311,13 +294,14 @@ reply-requires c κs =
           ranged = rw held (kept-below 127 _ (below-first (a .p) _ (a .salt .now) (a .msg .now)));
         },
       ),
-      (sym (c-long after-c), pre .0 .3, pre .1 .2),
+      (sym (lent-length (c-lent after-c)), pre .0 .3, pre .1 .2),
     )
 
 same-length-5 : tie.Need-same-length-5
 same-length-5 c =
-    let after-first-challenges = c .before .before .before .before .before .before .before .before .before .before in
-    let after-if1 = after-first-challenges .before .before .before .before .before .before .before .before .before .before .before .before in
+    let after-first = c .before .before .before .before .before .before .before .before .before .before in
+    let after-aggregate-states = after-first .before .before .before .before .before .before .before .before .before in
+    let after-if1 = after-aggregate-states .before .before .before in
     let after-hash2 = after-if1 .before .before .before .before .before .before .before .before in
     after-hash2 .hash2 .kept .1 .1 .1 .1 .0
 

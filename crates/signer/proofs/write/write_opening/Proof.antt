@@ -11,7 +11,7 @@ use Rattle.packing.specs.Packing.{pack, size}
 use Rattle.linear.specs.Linear.{transformation}
 use Rattle.linear.proofs.Kept.{kept-below}
 use Rattle.linear.proofs.Ranges.{below-transformation}
-use Rattle.keygen.proofs.LentParts.{lent-within, lent-length, lent-part}
+use Rattle.expand.proofs.Lent.{Lent, lent-within, lent-length, lent-part}
 use Rattle.signer.specs.State.{exponentsOf}
 use Rattle.signer.proofs.Written.{
   Written,
@@ -56,14 +56,20 @@ exponents-are : (c : tie.Start) → take (c .args .p .n + c .args .p .n - c .arg
     (drop (c .args .p .n) (c .args .state .now)) ≡ exponentsOf (c .args .p) (c .args .state .now)
 exponents-are c = cut (c .args .p .n) (c .args .p .n + c .args .p .n) (c .args .p .n) (c .args .state .now) refl
 
+σ-lent : (c : tie.After-transform) →
+    let start = c .before .before .before .before .before .before .before .before .before .before .before in
+    Lent (start .args .p .n) (replicate 256 0) (c .transform .last .1 .1 .0)
+σ-lent c =
+    let start = c .before .before .before .before .before .before .before .before .before .before .before in
+    record { fits = start .pre .0 .n-fits; kept = c .transform .kept .1 .1 .0 }
+
 σ-held : (c : tie.After-transform) →
     let start = c .before .before .before .before .before .before .before .before .before .before .before in
     take (start .args .p .n) (c .transform .last .1 .1 .0 ++ drop (start .args .p .n) (replicate 256 0))
     ≡ transformation (start .args .key .now) (exponentsOf (start .args .p) (start .args .state .now))
 σ-held c =
     let start = c .before .before .before .before .before .before .before .before .before .before .before in
-    lent-part (start .args .p .n) (replicate 256 0) (c .transform .last .1 .1 .0) (start .pre .0 .n-fits)
-    (c .transform .kept .1 .1 .0)
+    lent-part (σ-lent c)
     ∙ c .transform .ensures
     ∙ ap (λ (es : List ℕ). transformation (start .args .key .now) es) (exponents-are start)
 
@@ -127,9 +133,7 @@ transform-requires c κs =
     )
 
 slice-relend-prefix-pack-response : tie.Need-slice-relend-prefix-pack-response
-slice-relend-prefix-pack-response c =
-    let after-packed-size2 = c .before .before .before .before in
-    omega (arith, sizes after-packed-size2)
+slice-relend-prefix-pack-response c = omega (arith, sizes (c .before .before .before .before))
 
 slice-aggregate-pack-response : tie.Need-slice-aggregate-pack-response
 slice-aggregate-pack-response c =
@@ -155,16 +159,12 @@ pack-response-requires c κs =
 array-share-prefix-sigma : tie.Need-array-share-prefix-sigma
 array-share-prefix-sigma c =
     let after-transform = c .before .before .before .before .before in
-    let start = after-transform .before .before .before .before .before .before .before .before .before .before .before in
-    lent-within (start .args .p .n) (replicate 256 0) (after-transform .transform .last .1 .1 .0)
-    (start .pre .0 .n-fits) (after-transform .transform .kept .1 .1 .0)
+    lent-within (σ-lent after-transform)
 
 slice-aggregate-pack-exponents : tie.Need-slice-aggregate-pack-exponents
 slice-aggregate-pack-exponents c =
     let after-transform = c .before .before .before .before .before .before in
-    let start = after-transform .before .before .before .before .before .before .before .before .before .before .before in
-    lent-length (start .args .p .n) (replicate 256 0) (after-transform .transform .last .1 .1 .0)
-    (start .pre .0 .n-fits) (after-transform .transform .kept .1 .1 .0)
+    lent-length (σ-lent after-transform)
 
 sub-pack-exponents : tie.Need-sub-pack-exponents
 sub-pack-exponents c = search needs
@@ -184,12 +184,11 @@ pack-exponents-requires c κs =
     let after-transform = after-pack-response .before .before .before in
     let after-packed-size2 = after-transform .before .before .before in
     let after-packed-size = after-packed-size2 .before in
-    let start = after-packed-size .before .before .before .before .before .before .before in
     let long =
-    lent-length (start .args .p .n) (replicate 256 0) (after-transform .transform .last .1 .1 .0)
-    (start .pre .0 .n-fits) (after-transform .transform .kept .1 .1 .0)
+    lent-length (σ-lent after-transform)
     in
-    let left : after-packed-size .packed-size .result + after-packed-size2 .packed-size2 .result - after-packed-size .packed-size .result ≡ after-packed-size2 .packed-size2 .result =
+    let left : after-packed-size .packed-size .result + after-packed-size2 .packed-size2 .result -
+    after-packed-size .packed-size .result ≡ after-packed-size2 .packed-size2 .result =
     omega arith
     in (
       rw (σ-held after-transform) (kept-below 7 _ (below-transformation _ _)),
@@ -200,13 +199,15 @@ pack-exponents-requires c κs =
 sub-copy : tie.Need-sub-copy
 sub-copy c =
     let after-pack-exponents = c .before .before in
-    let after-packed-size2 = after-pack-exponents .before .before .before .before .before .before .before .before .before .before .before in
+    let after-transform = after-pack-exponents .before .before .before .before .before .before .before .before in
+    let after-packed-size2 = after-transform .before .before .before in
     omega (arith, written-length (both-written after-pack-exponents), sizes after-packed-size2)
 
 part-copy-start : tie.Need-part-copy-start
 part-copy-start c =
     let after-pack-exponents = c .before .before in
-    let after-packed-size2 = after-pack-exponents .before .before .before .before .before .before .before .before .before .before .before in
+    let after-transform = after-pack-exponents .before .before .before .before .before .before .before .before in
+    let after-packed-size2 = after-transform .before .before .before in
     omega (arith, written-length (both-written after-pack-exponents), sizes after-packed-size2)
 
 part-copy-end : tie.Need-part-copy-end
@@ -221,18 +222,21 @@ part-copy-start-2 c = search needs
 part-copy-end-2 : tie.Need-part-copy-end-2
 part-copy-end-2 c =
     let after-transform = c .before .before .before .before .before .before .before .before .before .before .before in
-    let start = after-transform .before .before .before .before .before .before .before .before .before .before .before in
+    let after-packed-size = after-transform .before .before .before .before in
+    let start = after-packed-size .before .before .before .before .before .before .before in
     omega (arith, start .pre .3 .sized)
 
 copy-requires : tie.Need-copy-requires
 copy-requires c κs =
     let after-pack-exponents = c .before .before .before .before in
-    let after-packed-size2 = after-pack-exponents .before .before .before .before .before .before .before .before .before .before .before in
+    let after-transform = after-pack-exponents .before .before .before .before .before .before .before .before in
+    let after-packed-size2 = after-transform .before .before .before in
     let after-packed-size = after-packed-size2 .before in
     let start = after-packed-size .before .before .before .before .before .before .before in
     let a = start .args in
     let at = 2 * a .p .n + a .p .digest in
-    let left : length (a .part .now) - (after-packed-size .packed-size .result + after-packed-size2 .packed-size2 .result) ≡ a .p .digest =
+    let left : length (a .part .now) - (after-packed-size .packed-size .result +
+    after-packed-size2 .packed-size2 .result) ≡ a .p .digest =
     omega (arith, sizes after-packed-size2)
     in
     rest-length (both-written after-pack-exponents) ∙ left
@@ -250,7 +254,8 @@ returns c =
     let after-pack-exponents = after-copy .before .before .before .before .before in
     let after-pack-response = after-pack-exponents .before .before .before .before .before in
     let after-transform = after-pack-response .before .before .before in
-    let start = after-transform .before .before .before .before .before .before .before .before .before .before .before in
+    let after-packed-size = after-transform .before .before .before .before in
+    let start = after-packed-size .before .before .before .before .before .before .before in
     let a = start .args in
     let at = 2 * a .p .n + a .p .digest in
     let response-is = after-pack-response .pack-response .ensures in
