@@ -19,7 +19,7 @@ use Rattle.profile.proofs.RuleLaws.{holds, inside, parts}
 use Rattle.profile.proofs.Theorems.{line-lengths-hold, reads-written}
 use Rattle.scheme.specs.Key.{keySize}
 use Rattle.scheme.specs.Sign.{signatureSize, signChecks}
-use Rattle.scheme.specs.Verify.{verifyChecks, verify}
+use Rattle.scheme.specs.Verify.{verifySizes, verifyChecks, verify}
 use Rattle.store.specs.declared.Device.{Device}
 use Rattle.store.specs.Keys.{hasClass, deviceOf, deviceOk}
 use Rattle.store.specs.Stored.{storeSize, stored}
@@ -116,7 +116,7 @@ storing-put p table sealed device ps profile read = rw read (sym (put-number dev
 
 -- what the verifier answers 0 for has a key of its size
 pub key-sized : (p : Params) (key msg sig : List ℕ) → verify p key msg sig ≡ 0 → eqb (length key) (keySize p) ≡ true
-unfolding verify verifyChecks
+unfolding verify verifyChecks verifySizes
 key-sized p key msg sig e = holds (eqb (length key) (keySize p)) (passed (verifyChecks p key msg sig) e .0)
 
 -- ---- a package
