@@ -25,7 +25,7 @@ returns : tie.Need-returns Inv-loop μ-loop
 returns c =
     let turn = c .before .before .before in
     let args = turn .before .args in
-    line-found (args .input .now) (args .start) (turn .loop .i) (turn .loop .inv) (c .before .before .loop-test .taken) (c .if1 .taken)
+    line-found (args .input .now) (args .start) (turn .loop .i) (turn .loop .inv) (omega arith) (c .if1 .taken)
 
 loop-less : tie.Need-loop-less Inv-loop μ-loop
 loop-less c = omega arith
@@ -34,7 +34,7 @@ loop-again : tie.Need-loop-again Inv-loop μ-loop
 loop-again c =
     let turn = c .before .before .before in
     let args = turn .before .args in
-    passed-more (args .input .now) (args .start) (turn .loop .i) (turn .loop .inv) (c .before .before .loop-test .taken) (c .if1 .left)
+    passed-more (args .input .now) (args .start) (turn .loop .i) (turn .loop .inv) (omega arith) (c .if1 .left)
 
 returns-2 : tie.Need-returns-2 Inv-loop μ-loop
 returns-2 c =
