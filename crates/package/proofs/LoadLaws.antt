@@ -1,4 +1,5 @@
--- What loading answers: the device, the store's size, opening, storing, of which the first that refuses decides. Assumes nothing.
+-- What loading answers: the device, the store's size, opening, storing, of which the first that refuses decides.
+-- Assumes nothing.
 use mathlib.Core.Path.{_≡_, refl, _∙_, sym, subst}
 use mathlib.Core.Bool.{true, false}
 use mathlib.Core.List.{List, _++_}
@@ -71,9 +72,11 @@ module _ (p : Params) (table : List Class) (key sealed country : List ℕ) (clas
         pub load-put : {profile : Profile} {r : ℕ} {new : List ℕ} (its : Device) → its ≡ device
             → Opens p table key sealed (opening.Profile profile) → Puts its profile old r new → Answered r new
         load-put {profile} {r} {new} its same opens done-with =
-            let puts : Puts device profile old r new = subst (λ (d : Device). Puts d profile old r new) same done-with in
+            let puts : Puts device profile old r new =
+            subst (λ (d : Device). Puts d profile old r new) same done-with in
             let found = profile-opened p table key sealed opens in
-            let storing : r ≡ firstRefusal Storing = rw (found .1) (puts .answer ∙ put-number device profile (stored old)) in
+            let storing : r ≡ firstRefusal Storing =
+            rw (found .1) (puts .answer ∙ put-number device profile (stored old)) in
             record {
               answers = goes-on Opening Storing (sym (found .0)) refl storing ∙ sym behind;
               taken = λ z. (profile, sym (opened-passed p table key sealed (found .0)) ∙ found .1, puts .taken z);

@@ -32,7 +32,8 @@ use Rattle.package.proofs.Stages.{by-first, by-second, by-third}
 -- ---- answers
 
 -- a refusal that leaves all as it was
-kept : {cs : List Check} (line old : List ℕ) (before k : ℕ) → (k ≡ 0 → ⊥) → k ≡ firstRefusal cs → AnswersFront cs line old before k old before
+kept : {cs : List Check} (line old : List ℕ) (before k : ℕ) → (k ≡ 0 → ⊥) → k ≡ firstRefusal cs
+    → AnswersFront cs line old before k old before
 kept line old before k some e =
     record {
       answers = record { answer = e; content = rw (ne-eqb k 0 some) refl };
@@ -46,13 +47,15 @@ front-as {cs} {ds} e a = record { answers = answers-as {cs = cs} {ds = ds} e (a 
 
 -- ---- sealing a line
 
-module _ (p : Params) (private master salt line old : List ℕ) (n : ℕ) (sized : n ≡ signatureSize p) (room : Room p line old) where
+module _ (p : Params) (private master salt line old : List ℕ) (n : ℕ) (sized : n ≡ signatureSize p)
+    (room : Room p line old) where
   -- the part that is lent for the signature
   pub part-length : n ≡ length (take n old)
   part-length = sym (length-take-le n old (omega (arith, sized, room .0)))
 
   module _ (r : ℕ) (front : List ℕ)
-      (signed : Answers (signChecks p private master salt line (length (take n old))) (signature p private master salt line) (take n old) r front)
+      (signed : Answers (signChecks p private master salt line (length (take n old)))
+      (signature p private master salt line) (take n old) r front)
     where
       -- as many bytes are lent for the signature as it has
       number : r ≡ firstRefusal (signChecks p private master salt line (signatureSize p))
@@ -60,7 +63,8 @@ module _ (p : Params) (private master salt line old : List ℕ) (n : ℕ) (sized
           signed .answer
           ∙ ap (λ (m : ℕ). firstRefusal (signChecks p private master salt line m)) (sym part-length ∙ sized)
 
-      pub seal-refused : (before : ℕ) → (r ≡ 0 → ⊥) → Seals p private master salt line old before r (front ++ drop n old) before
+      pub seal-refused : (before : ℕ) → (r ≡ 0 → ⊥)
+          → Seals p private master salt line old before r (front ++ drop n old) before
       seal-refused before some =
           let same : front ≡ take n old = signed .content ∙ rw (ne-eqb r 0 some) refl in
           let whole : front ++ drop n old ≡ old = ap (λ (f : List ℕ). f ++ drop n old) same ∙ take-append-drop n old in
@@ -84,7 +88,8 @@ module _ (p : Params) (private master salt line old : List ℕ) (n : ℕ) (sized
             ∙ ap (λ (m : ℕ). m + length line) (ap (λ (f : List ℕ). length f) (sym front-is) ∙ front-long)
 
         pub seal-done : (before : ℕ) (new : List ℕ) → new ≡ line
-            → Seals p private master salt line old before 0 (putMid n ((n + length line) - n) (front ++ drop n old) new) (n + length line)
+            → Seals p private master salt line old before 0
+            (putMid n ((n + length line) - n) (front ++ drop n old) new) (n + length line)
         unfolding packageOf
         seal-done before new copied =
             record {
@@ -102,7 +107,8 @@ pub front-length : (n : ℕ) (bytes : List ℕ) → n ≤ length bytes → n ≡
 front-length n bytes within = sym (length-take-le n bytes within)
 
 -- sizes that are right: there is room for the longest package
-room-lent : (p : Params) (private master salt : List ℕ) (lent : ℕ) → firstRefusal (makeSizes p private master salt lent) ≡ 0 → lent ≡ packageMax p
+room-lent : (p : Params) (private master salt : List ℕ) (lent : ℕ)
+    → firstRefusal (makeSizes p private master salt lent) ≡ 0 → lent ≡ packageMax p
 room-lent p private master salt lent ok =
     eqb-true lent (packageMax p) (holds-test _ (passed (makeSizes p private master salt lent) ok .1 .1 .1 .0))
 
@@ -121,7 +127,8 @@ abbrev pub blank : List ℕ
 blank = replicate longest 0
 
 module _ (table : List Class) (profile : Profile) (new : List ℕ) where
-  number-written : (w : WriteLine) → Writes table profile blank w new → numberIn (writeAnswer w) ≡ pick {A = ℕ} (valid table profile) 0 5
+  number-written : (w : WriteLine) → Writes table profile blank w new
+      → numberIn (writeAnswer w) ≡ pick {A = ℕ} (valid table profile) 0 5
   unfolding writeLine
   number-written w written =
       ap numberIn (written .answered)
@@ -152,7 +159,8 @@ module _ (table : List Class) (profile : Profile) (new : List ℕ) where
         ap (λ (bytes : List ℕ). take n bytes) held
         ∙ take-at (lineOf profile) (drop (length (lineOf profile)) blank) n (found .1)
 
-module _ (p : Params) (table : List Class) (private master salt : List ℕ) (profile : Profile) (old : List ℕ) (before : ℕ) where
+module _ (p : Params) (table : List Class) (private master salt : List ℕ) (profile : Profile) (old : List ℕ)
+    (before : ℕ) where
   -- sizes, rules and signing, in the order in which they refuse
   abbrev sizes : List Check
   sizes = makeSizes p private master salt (length old)
@@ -163,7 +171,8 @@ module _ (p : Params) (table : List Class) (private master salt : List ℕ) (pro
   abbrev signing : List Check
   signing = signChecks p private master salt (lineOf profile) (signatureSize p)
 
-  pub make-sizes : (k : ℕ) → (k ≡ 0 → ⊥) → k ≡ firstRefusal sizes → MakesPackage p table private master salt profile old before k old before
+  pub make-sizes : (k : ℕ) → (k ≡ 0 → ⊥) → k ≡ firstRefusal sizes
+      → MakesPackage p table private master salt profile old before k old before
   unfolding makeChecks
   make-sizes k some e =
       kept (packageOf p private master salt (lineOf profile)) old before k some (by-first sizes rules signing k some e)
@@ -171,21 +180,27 @@ module _ (p : Params) (table : List Class) (private master salt : List ℕ) (pro
   module _ (sized : ℕ) (tested : sized ≡ firstRefusal sizes) (none : sized ≡ 0) where
     pub front-room : (n : ℕ) (new : List ℕ) → length new ≡ longest → n ≤ length new → Room p (take n new) old
     front-room n new long within =
-        (room-lent p private master salt (length old) (sym tested ∙ none), omega (arith, front-length n new within, long))
+        let lent = room-lent p private master salt (length old) (sym tested ∙ none) in
+        (lent, omega (arith, front-length n new within, long))
 
-    pub make-broken : (new : List ℕ) → Writes table profile blank BadProfile new → MakesPackage p table private master salt profile old before 5 old before
+    pub make-broken : (new : List ℕ) → Writes table profile blank BadProfile new
+        → MakesPackage p table private master salt profile old before 5 old before
     unfolding makeChecks
     make-broken new written =
         kept (packageOf p private master salt (lineOf profile)) old before 5 (λ z. omega arith)
-        (by-second sizes rules signing (sym tested ∙ none) 5 (λ z. omega arith) (sym (fails bad-line (valid table profile) [] (breaks table profile new written))))
+        (by-second sizes rules signing (sym tested ∙ none) 5 (λ z. omega arith)
+        (sym (fails bad-line (valid table profile) [] (breaks table profile new written))))
 
     pub make-sealed : (new : List ℕ) (n : ℕ) → Writes table profile blank (Written n) new → {k after : ℕ} {out : List ℕ}
-        → Seals p private master salt (take n new) old before k out after → MakesPackage p table private master salt profile old before k out after
+        → Seals p private master salt (take n new) old before k out after
+        → MakesPackage p table private master salt profile old before k out after
     unfolding makeChecks
     make-sealed new n written {k} {after} {out} sealed =
         front-as {cs = signing} {ds = sizes ++ rules ++ signing}
-        (by-third sizes rules signing (sym tested ∙ none) (holds bad-line (valid table profile) [] (obeyed table profile new n written)))
-        (subst (λ (l : List ℕ). Seals p private master salt l old before k out after) (written-line table profile new n written) sealed)
+        (by-third sizes rules signing (sym tested ∙ none)
+        (holds bad-line (valid table profile) [] (obeyed table profile new n written)))
+        (subst (λ (l : List ℕ). Seals p private master salt l old before k out after)
+        (written-line table profile new n written) sealed)
 
 -- ---- from a line
 
@@ -199,21 +214,26 @@ module _ (p : Params) (table : List Class) (private master salt line old : List 
   abbrev line-signing : List Check
   line-signing = signChecks p private master salt line (signatureSize p)
 
-  pub make-line-sizes : (k : ℕ) → (k ≡ 0 → ⊥) → k ≡ firstRefusal line-sizes → MakesFromLine p table private master salt line old before k old before
+  pub make-line-sizes : (k : ℕ) → (k ≡ 0 → ⊥) → k ≡ firstRefusal line-sizes
+      → MakesFromLine p table private master salt line old before k old before
   unfolding makeLineChecks
   make-line-sizes k some e =
       kept (packageOf p private master salt line) old before k some (by-first line-sizes reading line-signing k some e)
 
   module _ (sized : ℕ) (tested : sized ≡ firstRefusal line-sizes) (none : sized ≡ 0) where
-    refuses : (k : ℕ) → (k ≡ 0 → ⊥) → k ≡ firstRefusal reading → MakesFromLine p table private master salt line old before k old before
+    refuses : (k : ℕ) → (k ≡ 0 → ⊥) → k ≡ firstRefusal reading
+        → MakesFromLine p table private master salt line old before k old before
     unfolding makeLineChecks
     refuses k some e =
-        kept (packageOf p private master salt line) old before k some (by-second line-sizes reading line-signing (sym tested ∙ none) k some e)
+        kept (packageOf p private master salt line) old before k some
+        (by-second line-sizes reading line-signing (sym tested ∙ none) k some e)
 
-    pub make-line-short : refused bad-size ≡ readLine table line → MakesFromLine p table private master salt line old before 1 old before
+    pub make-line-short : refused bad-size ≡ readLine table line
+        → MakesFromLine p table private master salt line old before 1 old before
     make-line-short read = refuses 1 (λ z. omega arith) (rw (← read) refl)
 
-    pub make-line-broken : refused bad-line ≡ readLine table line → MakesFromLine p table private master salt line old before 5 old before
+    pub make-line-broken : refused bad-line ≡ readLine table line
+        → MakesFromLine p table private master salt line old before 5 old before
     make-line-broken read = refuses 5 (λ z. omega arith) (rw (← read) refl)
 
     module _ (profile : Profile) (read : done profile ≡ readLine table line) where
@@ -221,10 +241,12 @@ module _ (p : Params) (table : List Class) (private master salt line old : List 
       read-room =
           let back = writes-read table line profile (sym read) in
           let bounds = line-lengths-hold table profile (back .1) in
-          (room-lent p private master salt (length old) (sym tested ∙ none), omega (arith, bounds .1, ap (λ (l : List ℕ). length l) (back .0)))
+          let lent = room-lent p private master salt (length old) (sym tested ∙ none) in
+          (lent, omega (arith, bounds .1, ap (λ (l : List ℕ). length l) (back .0)))
 
       pub make-line-sealed : {k after : ℕ} {new : List ℕ}
-          → Seals p private master salt line old before k new after → MakesFromLine p table private master salt line old before k new after
+          → Seals p private master salt line old before k new after
+          → MakesFromLine p table private master salt line old before k new after
       unfolding makeLineChecks
       make-line-sealed sealed =
           front-as {cs = line-signing} {ds = line-sizes ++ reading ++ line-signing}

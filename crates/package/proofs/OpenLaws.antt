@@ -1,4 +1,5 @@
--- What opening a package answers: its stages one after the other, of which the first that refuses decides. Assumes nothing.
+-- What opening a package answers: its stages one after the other, of which the first that refuses decides.
+-- Assumes nothing.
 use mathlib.Core.Path.{_≡_, refl, _∙_, sym, ap, subst}
 use mathlib.Core.Bool.{Bool, true, false, _&&_}
 use mathlib.Core.List.{List, [], _∷_, _++_, append-assoc}
@@ -29,7 +30,8 @@ both-left true b h = tt
 both-left false b h = absurd h
 
 -- a package of a right size has all of a signature
-pub signature-within : (p : Params) (key sealed : ℕ) → firstRefusal (openSizes p key sealed) ≡ 0 → signatureSize p ≤ sealed
+pub signature-within : (p : Params) (key sealed : ℕ) → firstRefusal (openSizes p key sealed) ≡ 0
+    → signatureSize p ≤ sealed
 signature-within p key sealed e =
     let inside : T (leb (packageMin p) sealed && leb sealed (packageMax p)) = passed (openSizes p key sealed) e .1 .0 in
     let least : packageMin p ≤ sealed =
@@ -47,14 +49,16 @@ module _ (p : Params) (sealed : List ℕ) (n : ℕ) (size : n ≡ signatureSize 
   line-part = part-to-end sealed n ∙ ap (λ (k : ℕ). drop k sealed) size
 
   -- what the verifier and the reader of lines answer for these parts
-  pub verify-parts : (key : List ℕ) {k : ℕ} → k ≡ verify p key (take (length sealed - n) (drop n sealed)) (take n sealed)
+  pub verify-parts : (key : List ℕ) {k : ℕ}
+      → k ≡ verify p key (take (length sealed - n) (drop n sealed)) (take n sealed)
       → k ≡ verify p key (lineIn p sealed) (signatureIn p sealed)
   verify-parts key e =
       e
       ∙ (ap (λ (line : List ℕ). verify p key line (take n sealed)) line-part
       ∙ ap (λ (sig : List ℕ). verify p key (lineIn p sealed) sig) signature-part)
 
-  pub read-part : (table : List Class) {x : Result Profile} → x ≡ readLine table (take (length sealed - n) (drop n sealed))
+  pub read-part : (table : List Class) {x : Result Profile}
+      → x ≡ readLine table (take (length sealed - n) (drop n sealed))
       → x ≡ readLine table (lineIn p sealed)
   read-part table e = e ∙ ap (λ (line : List ℕ). readLine table line) line-part
 
@@ -79,7 +83,8 @@ module _ {A : Type 0} where
   after-passed (r unless true ∷ cs) x e = after-passed cs x e
   after-passed (r unless false ∷ cs) x e = absurd (passed (r unless false ∷ cs) e .0)
 
-  after-number : (cs : List Check) (x : Result A) → numberIn (after (cs ++ refusalIn x) x) ≡ firstRefusal (cs ++ refusalIn x)
+  after-number : (cs : List Check) (x : Result A)
+      → numberIn (after (cs ++ refusalIn x) x) ≡ firstRefusal (cs ++ refusalIn x)
   after-number [] (done a) = refl
   after-number [] (refused r) = refl
   after-number (r unless true ∷ cs) x = after-number cs x
@@ -104,13 +109,15 @@ module _ (p : Params) (table : List Class) (key sealed : List ℕ) where
       subst (λ (cs : List Check). numberIn (after cs read) ≡ firstRefusal cs) (append-assoc Sizes Verifying Reading)
       (after-number (Sizes ++ Verifying) read)
 
-  pub opened-passed : firstRefusal (openChecks p table key sealed) ≡ 0 → opened p table key sealed ≡ readLine table (lineIn p sealed)
+  pub opened-passed : firstRefusal (openChecks p table key sealed) ≡ 0
+      → opened p table key sealed ≡ readLine table (lineIn p sealed)
   unfolding opened
   opened-passed e = after-passed (openChecks p table key sealed) (readLine table (lineIn p sealed)) e
 
   -- ---- what is answered
 
-  refuses : (k : ℕ) → k ≡ firstRefusal (openChecks p table key sealed) → (k ≡ 0 → ⊥) → Opens p table key sealed (opening.Refused k)
+  refuses : (k : ℕ) → k ≡ firstRefusal (openChecks p table key sealed) → (k ≡ 0 → ⊥)
+      → Opens p table key sealed (opening.Refused k)
   refuses k e some =
       let number : k ≡ numberIn (opened p table key sealed) = e ∙ sym opened-number in
       record { number = number; value = no-value (opened p table key sealed) (λ z. some (number ∙ z)) }
@@ -123,7 +130,8 @@ module _ (p : Params) (table : List Class) (key sealed : List ℕ) where
     pub open-verify : (k : ℕ) → k ≡ verify p key (lineIn p sealed) (signatureIn p sealed) → (k ≡ 0 → ⊥)
         → Opens p table key sealed (opening.Refused k)
     unfolding openChecks verify
-    open-verify k e some = refuses k (goes-on Sizes (Verifying ++ Reading) (sym sized) refl (stops Verifying Reading e some)) some
+    open-verify k e some =
+        refuses k (goes-on Sizes (Verifying ++ Reading) (sym sized) refl (stops Verifying Reading e some)) some
 
     module _ (verified : verify p key (lineIn p sealed) (signatureIn p sealed) ≡ 0) where
       -- the line decides
@@ -131,7 +139,8 @@ module _ (p : Params) (table : List Class) (key sealed : List ℕ) where
       unfolding openChecks verify
       last e = goes-on Sizes (Verifying ++ Reading) (sym sized) refl (goes-on Verifying Reading (sym verified) refl e)
 
-      pub open-line : (q : Refusal) → refused q ≡ readLine table (lineIn p sealed) → Opens p table key sealed (opening.Refused (numberOf q))
+      pub open-line : (q : Refusal) → refused q ≡ readLine table (lineIn p sealed)
+          → Opens p table key sealed (opening.Refused (numberOf q))
       open-line q read = refuses (numberOf q) (last (rw (← read) refl)) (λ e. passed (q unless false ∷ []) e .0)
 
       pub open-profile : (profile : Profile) → done profile ≡ readLine table (lineIn p sealed)

@@ -26,7 +26,19 @@ use Rattle.store.specs.Stored.{storeSize, stored}
 use Rattle.store.specs.Calls.{putNumber}
 use Rattle.store.proofs.KeyLaws.{device-class}
 use Rattle.store.proofs.PutLaws.{put-number}
-use Rattle.package.specs.Package.{packageMin, packageMax, makeSizes, makeChecks, signatureIn, lineIn, openSizes, openChecks, opened, storeChecks, loadChecks}
+use Rattle.package.specs.Package.{
+  packageMin,
+  packageMax,
+  makeSizes,
+  makeChecks,
+  signatureIn,
+  lineIn,
+  openSizes,
+  openChecks,
+  opened,
+  storeChecks,
+  loadChecks,
+}
 use Rattle.package.proofs.OpenLaws.{opened-passed}
 
 -- ---- making
@@ -45,7 +57,8 @@ made-passed p table private master salt profile lent e =
 -- ---- loading
 
 -- the stages of loading, each answered 0
-pub record LoadPassed (p : Params) (table : List Class) (key sealed country : List ℕ) (class : ℕ) (old : List ℕ) : Type 0 where
+pub record LoadPassed (p : Params) (table : List Class) (key sealed country : List ℕ) (class : ℕ)
+    (old : List ℕ) : Type 0 where
   pub two : eqb (length country) 2 ≡ true
   pub device-ok : deviceOk table (deviceOf country class) ≡ true
   pub whole : eqb (length old) storeSize ≡ true
@@ -79,10 +92,12 @@ module _ (p : Params) (table : List Class) (key sealed country : List ℕ) (clas
 
   -- what is stored is what was read
   stores-read : firstRefusal opens ≡ 0
-      → firstRefusal stores ≡ firstRefusal (storeChecks (deviceOf country class) (stored old) (readLine table (lineIn p sealed)))
+      → firstRefusal stores
+      ≡ firstRefusal (storeChecks (deviceOf country class) (stored old) (readLine table (lineIn p sealed)))
   stores-read e = rw (opened-passed p table key sealed e) refl
 
-  pub load-passed : firstRefusal (loadChecks p table key sealed country class old) ≡ 0 → LoadPassed p table key sealed country class old
+  pub load-passed : firstRefusal (loadChecks p table key sealed country class old) ≡ 0
+      → LoadPassed p table key sealed country class old
   unfolding loadChecks openChecks verify
   load-passed e =
       let first = both-passed front (opens ++ stores) e in
@@ -100,16 +115,19 @@ module _ (p : Params) (table : List Class) (key sealed country : List ℕ) (clas
         storing = sym (stores-read (second .0)) ∙ second .1;
       }
 
-  pub load-accepts : LoadPassed p table key sealed country class old → firstRefusal (loadChecks p table key sealed country class old) ≡ 0
+  pub load-accepts : LoadPassed p table key sealed country class old
+      → firstRefusal (loadChecks p table key sealed country class old) ≡ 0
   unfolding loadChecks openChecks verify
   load-accepts all =
       let opening : firstRefusal opens ≡ 0 =
-      passed-front sizes (verifying ++ reading) (all .sized) ∙ (passed-front verifying reading (all .verified) ∙ all .read) in
+      passed-front sizes (verifying ++ reading) (all .sized)
+      ∙ (passed-front verifying reading (all .verified) ∙ all .read) in
       passed-front front (opens ++ stores) (rw (all .two, all .device-ok, all .whole))
       ∙ (passed-front opens stores opening ∙ (stores-read opening ∙ all .storing))
 
 -- where a profile is read, what is left is putting it
-pub storing-put : (p : Params) (table : List Class) (sealed : List ℕ) (device : Device) (ps : List Profile) (profile : Profile)
+pub storing-put : (p : Params) (table : List Class) (sealed : List ℕ) (device : Device) (ps : List Profile)
+    (profile : Profile)
     → readLine table (lineIn p sealed) ≡ done profile
     → firstRefusal (storeChecks device ps (readLine table (lineIn p sealed))) ≡ putNumber device profile ps
 storing-put p table sealed device ps profile read = rw read (sym (put-number device profile ps))
@@ -137,12 +155,14 @@ or-second true b e = refl
 or-second false b e = e
 
 -- the class that a table gives for some volts is one of the table
-class-known : (table : List Class) (volts letter : ℕ) → isClass (classIn table volts) letter ≡ true → hasClass table letter ≡ true
+class-known : (table : List Class) (volts letter : ℕ) → isClass (classIn table volts) letter ≡ true
+    → hasClass table letter ≡ true
 class-known [] volts letter e = e
 class-known (c ∷ cs) volts letter e = go (contains (c .volts) volts) e (class-known cs volts letter)
   where
     go : (b : Bool) → isClass (pick b (done (c .letter)) (classIn cs volts)) letter ≡ true
-        → (isClass (classIn cs volts) letter ≡ true → hasClass cs letter ≡ true) → (eqb letter (c .letter) || hasClass cs letter) ≡ true
+        → (isClass (classIn cs volts) letter ≡ true → hasClass cs letter ≡ true)
+        → (eqb letter (c .letter) || hasClass cs letter) ≡ true
     go true e rest = rw e
     go false e rest = or-second (eqb letter (c .letter)) (hasClass cs letter) (rest e)
 
@@ -152,11 +172,14 @@ device-of-valid table profile device ok country class =
     let rules = parts table profile ok in
     let first : contains letters (device .country .first) ≡ true = rw country (rules .first) in
     let second : contains letters (device .country .second) ≡ true = rw country (rules .second) in
-    device-class table device first second ∙ rw class (class-known table (profile .volts) (profile .class) (rules .agrees))
+    device-class table device first second
+    ∙ rw class (class-known table (profile .volts) (profile .class) (rules .agrees))
 
--- ---- the package of a valid profile whose signature verifies is accepted where the device is set, the store is one and putting is
+-- ---- the package of a valid profile whose signature verifies is accepted where device and store are right and putting
+-- is accepted
 
-module _ (p : Params) (table : List Class) (key sig country : List ℕ) (class : ℕ) (profile : Profile) (old : List ℕ) where
+module _ (p : Params) (table : List Class) (key sig country : List ℕ) (class : ℕ) (profile : Profile)
+    (old : List ℕ) where
   pub package-loads : T (valid table profile) → length sig ≡ signatureSize p → verify p key (lineOf profile) sig ≡ 0
       → length country ≡ 2 → deviceOk table (deviceOf country class) ≡ true → length old ≡ storeSize
       → putNumber (deviceOf country class) profile (stored old) ≡ 0

@@ -29,11 +29,20 @@ use Rattle.store.proofs.Reached.{reached-put}
 use Rattle.package.specs.Package.{packageOf, signatureIn, lineIn, loadChecks}
 use Rattle.package.specs.Entries.{MakesPackage, Loads}
 use Rattle.package.specs.Theorems.{MadeLoads, NothingElse, LoadReaches}
-use Rattle.package.proofs.TheoremLaws.{made-passed, LoadPassed, load-passed, storing-put, line-back, device-of-valid, package-loads}
+use Rattle.package.proofs.TheoremLaws.{
+  made-passed,
+  LoadPassed,
+  load-passed,
+  storing-put,
+  line-back,
+  device-of-valid,
+  package-loads,
+}
 
 -- ---- what an accepted load says
 
-record Accepted (p : Params) (table : List Class) (key sealed country : List ℕ) (class : ℕ) (old new : List ℕ) : Type 0 where
+record Accepted (p : Params) (table : List Class) (key sealed country : List ℕ) (class : ℕ)
+    (old new : List ℕ) : Type 0 where
   profile : Profile
   reads : readLine table (lineIn p sealed) ≡ done profile
   taken : Taken profile old new
@@ -42,7 +51,8 @@ record Accepted (p : Params) (table : List Class) (key sealed country : List ℕ
 
 module _ (p : Params) (table : List Class) where
   accepted : (key sealed country : List ℕ) (class : ℕ) (old : List ℕ) (answer : ℕ) (new : List ℕ)
-      → Loads p table key sealed country class old answer new → answer ≡ 0 → Accepted p table key sealed country class old new
+      → Loads p table key sealed country class old answer new → answer ≡ 0
+      → Accepted p table key sealed country class old new
   accepted key sealed country class old answer new loads e =
       let found = loads .taken e in
       let passes = load-passed p table key sealed country class old (sym (loads .answers) ∙ e) in
@@ -51,7 +61,8 @@ module _ (p : Params) (table : List Class) where
         reads = found .1;
         taken = found .2;
         passes = passes;
-        puts = sym (storing-put p table sealed (deviceOf country class) (stored old) (found .0) (found .1)) ∙ passes .storing;
+        puts = sym (storing-put p table sealed (deviceOf country class) (stored old) (found .0) (found .1))
+            ∙ passes .storing;
       }
 
   pub nothing-else : NothingElse p table
@@ -60,7 +71,8 @@ module _ (p : Params) (table : List Class) where
       let t = accepted key sealed country class old answer new loads e in
       let device : Device = deviceOf country class in
       let written = writes-read table (lineIn p sealed) (t .profile) (t .reads) in
-      let same = same-eq (keyOf (t .profile)) (deviceKey device) (put-passed device (t .profile) (stored old) (t .puts) .0) in (
+      let own = put-passed device (t .profile) (stored old) (t .puts) .0 in
+      let same = same-eq (keyOf (t .profile)) (deviceKey device) own in (
         t .profile,
         t .taken,
         written .1,
@@ -73,15 +85,19 @@ module _ (p : Params) (table : List Class) where
   pub load-reaches : LoadReaches p table
   load-reaches calls key sealed country class old answer new run loads = (
     λ e.
-        let t = accepted key sealed country class old answer new loads e in
-        (t .profile, reached-put calls (deviceOf country class) (t .profile) old 0 new run (takes (t .puts) (t .taken))),
+        let t = accepted key sealed country class old answer new loads e in (
+          t .profile,
+          reached-put calls (deviceOf country class) (t .profile) old 0 new run
+              (takes (t .puts) (t .taken)),
+        ),
     λ ne. subst (λ (image : List ℕ). Reached calls (stored image)) (sym (loads .kept ne)) run,
   )
 
 -- ---- a made package
 
 -- what was written, up to its length, is the package
-made-whole : (p : Params) (table : List Class) (private master salt : List ℕ) (profile : Profile) (old sealed : List ℕ) (before size : ℕ)
+made-whole : (p : Params) (table : List Class) (private master salt : List ℕ) (profile : Profile) (old sealed : List ℕ)
+    (before size : ℕ)
     → MakesPackage p table private master salt profile old before 0 sealed size
     → take size sealed ≡ packageOf p private master salt (lineOf profile)
 made-whole p table private master salt profile old sealed before size made =
@@ -90,13 +106,16 @@ made-whole p table private master salt profile old sealed before size made =
 
 pub made-loads : (p : Params) (table : List Class) → Sound p → MadeLoads p table
 unfolding packageOf
-made-loads p table sound private master salt profile lent sealed before size country class old answer new made two its-country its-class whole newer room loads =
+made-loads p table sound private master salt profile lent sealed before size country class old answer new made two
+    its-country its-class whole newer room loads =
     let device : Device = deviceOf country class in
     let sig : List ℕ = signature p private master salt (lineOf profile) in
     let ok = made-passed p table private master salt profile (length lent) (sym (made .answers .answer)) in
     let sized = length-signature p sound private master salt (lineOf profile) (signatureSize p) (ok .1) in
-    let written : take size sealed ≡ sig ++ lineOf profile = made-whole p table private master salt profile lent sealed before size made in
-    let same : keyOf profile ≡ deviceKey device = λ i. record { country = sym its-country i; class = sym its-class i } in
+    let written : take size sealed ≡ sig ++ lineOf profile =
+    made-whole p table private master salt profile lent sealed before size made in
+    let same : keyOf profile ≡ deviceKey device =
+    λ i. record { country = sym its-country i; class = sym its-class i } in
     let its : sameKey (keyOf profile) (deviceKey device) ≡ true = rw same (same-refl (deviceKey device)) in
     let fine : deviceOk table device ≡ true = device-of-valid table profile device (ok .0) its-country its-class in
     let passes : firstRefusal (loadChecks p table (publicKey p private) (take size sealed) country class old) ≡ 0 =

@@ -13,11 +13,21 @@ use Rattle.profile.specs.Line.{longest, lineOf, readLine}
 use Rattle.scheme.specs.Sign.{signatureSize, signChecks}
 use Rattle.store.specs.Calls.{Taken}
 use Rattle.package.specs.declared.load.Opened.{Opened}
-use Rattle.package.specs.Package.{packageMax, packageOf, makeChecks, makeLineChecks, lineIn, openNumber, openValues, opened, loadChecks}
+use Rattle.package.specs.Package.{
+  packageMax,
+  packageOf,
+  makeChecks,
+  makeLineChecks,
+  lineIn,
+  openNumber,
+  openValues,
+  opened,
+  loadChecks,
+}
 
 module _ (p : Params) where
-  -- ---- making: the package at the front of what was lent, past it the bytes as they were, and its length; after a refusal bytes and
-  -- length are as they were
+  -- ---- making: the package at the front of what was lent, past it the bytes as they were, and its length; after a
+  -- refusal bytes and length are as they were
 
   -- bytes for the longest package are lent, and the line is none that is longer
   abbrev pub Room : List ℕ → List ℕ → Type 0
@@ -30,11 +40,13 @@ module _ (p : Params) where
 
   abbrev pub MakesPackage : List Class → List ℕ → List ℕ → List ℕ → Profile → List ℕ → ℕ → ℕ → List ℕ → ℕ → Type 0
   MakesPackage table private master salt profile old =
-      AnswersFront (makeChecks p table private master salt profile (length old)) (packageOf p private master salt (lineOf profile)) old
+      AnswersFront (makeChecks p table private master salt profile (length old))
+      (packageOf p private master salt (lineOf profile)) old
 
   abbrev pub MakesFromLine : List Class → List ℕ → List ℕ → List ℕ → List ℕ → List ℕ → ℕ → ℕ → List ℕ → ℕ → Type 0
   MakesFromLine table private master salt line old =
-      AnswersFront (makeLineChecks p table private master salt line (length old)) (packageOf p private master salt line) old
+      AnswersFront (makeLineChecks p table private master salt line (length old))
+      (packageOf p private master salt line) old
 
   -- ---- opening
 
@@ -44,9 +56,11 @@ module _ (p : Params) where
 
   -- ---- loading
 
-  -- With the answer 0 the profile of the package's line stands in one slot of the store's image, whichever the program chose, and
-  -- every other byte is as it was; after a refusal all bytes are.
-  pub record Loads (table : List Class) (key sealed country : List ℕ) (class : ℕ) (old : List ℕ) (answer : ℕ) (new : List ℕ) : Type 0 where
+  -- With the answer 0 the profile of the package's line stands in one slot of the store's image, whichever the program
+  -- chose, and every other byte is as it was; after a refusal all bytes are.
+  pub record Loads (table : List Class) (key sealed country : List ℕ) (class : ℕ) (old : List ℕ) (answer : ℕ)
+      (new : List ℕ) : Type 0 where
     pub answers : answer ≡ firstRefusal (loadChecks p table key sealed country class old)
-    pub taken : answer ≡ 0 → (profile : Profile) × (readLine table (lineIn p sealed) ≡ done profile) × Taken profile old new
+    pub taken : answer ≡ 0
+        → (profile : Profile) × (readLine table (lineIn p sealed) ≡ done profile) × Taken profile old new
     pub kept : (answer ≡ 0 → ⊥) → new ≡ old

@@ -1,6 +1,6 @@
--- A package is the signature of a line, followed by the line (document 01, "Profile line, package, shelf"): making one, opening
--- one, and storing what was opened, each as its tests in the order in which they refuse (table "Returned" and the paragraph after
--- it).
+-- A package is the signature of a line, followed by the line (document 01, "Profile line, package, shelf"): making one,
+-- opening one, and storing what was opened, each as its tests in the order in which they refuse (table "Returned" and
+-- the paragraph after it).
 -- Assumes nothing.
 use mathlib.Core.List.{List, [], _∷_, _++_}
 use Prim.Native.Nat.{ℕ, _+_}
@@ -99,7 +99,8 @@ module _ (p : Params) where
 
   -- ---- loading
 
-  -- the device that is set to this country and class; the size of the store's image; opening; then storing what was opened
+  -- the device that is set to this country and class; the size of the store's image; opening; then storing what was
+  -- opened
   unfoldable pub loadChecks : List Class → List ℕ → List ℕ → List ℕ → ℕ → List ℕ → List Check
   loadChecks table key sealed country class old =
       bad-device unless eqb (length country) 2

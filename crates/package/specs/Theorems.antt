@@ -1,5 +1,5 @@
--- What packages and the loader owe to one another, of every program that meets their contracts, under any class table. The proofs
--- stand in proofs/Theorems.antt.
+-- What packages and the loader owe to one another, of every program that meets their contracts, under any class table.
+-- The proofs stand in proofs/Theorems.antt.
 -- Assumes nothing.
 use mathlib.Core.Path.{_≡_}
 use mathlib.Core.Bool.{true, _||_}
@@ -22,10 +22,10 @@ use Rattle.package.specs.Package.{signatureIn}
 use Rattle.package.specs.Entries.{MakesPackage, Loads}
 
 module _ (p : Params) (table : List Class) where
-  -- A made package loads: where package making answered 0 for a profile, loading what it wrote under the key that the rules give for
-  -- the private seed, on a device that is set to the profile's country and class, answers 0 in every store, reached or not, that
-  -- holds no profile of the pair or one with a smaller serial, and holds the pair or has room; and looking up the pair then gives
-  -- the profile.
+  -- A made package loads: where package making answered 0 for a profile, loading what it wrote under the key that the
+  -- rules give for the private seed, on a device that is set to the profile's country and class, answers 0 in every
+  -- store, reached or not, that holds no profile of the pair or one with a smaller serial, and holds the pair or has
+  -- room; and looking up the pair then gives the profile.
   abbrev pub MadeLoads : Type 0
   MadeLoads =
       (private master salt : List ℕ) (profile : Profile) (lent sealed : List ℕ) (before size : ℕ)
@@ -38,8 +38,8 @@ module _ (p : Params) (table : List Class) where
       → Loads p table (publicKey p private) (take size sealed) country class old answer new
       → (answer ≡ 0) × (lookupIn table (deviceOf country class) (stored new) ≡ done profile)
 
-  -- Nothing else gets in: where loading answers 0, what is stored is a valid profile of this device's own country and class, and the
-  -- verifier answers 0 for the package's signature over exactly the line of what is stored.
+  -- Nothing else gets in: where loading answers 0, what is stored is a valid profile of this device's own country and
+  -- class, and the verifier answers 0 for the package's signature over exactly the line of what is stored.
   abbrev pub NothingElse : Type 0
   NothingElse =
       (key sealed country : List ℕ) (class : ℕ) (old : List ℕ) (answer : ℕ) (new : List ℕ)
@@ -49,11 +49,13 @@ module _ (p : Params) (table : List Class) where
       × (sealed ≡ signatureIn p sealed ++ lineOf profile)
       × (verify p key (lineOf profile) (signatureIn p sealed) ≡ 0)
 
-  -- The loader goes from reached stores to reached stores, so that all that holds of these holds of what it keeps: an accepted load is
-  -- a call of `put` for this device and the profile of the package's line, and a refused one is none.
+  -- The loader goes from reached stores to reached stores, so that all that holds of these holds of what it keeps: an
+  -- accepted load is a call of `put` for this device and the profile of the package's line, and a refused one is none.
   abbrev pub LoadReaches : Type 0
   LoadReaches =
       (calls : List Call) (key sealed country : List ℕ) (class : ℕ) (old : List ℕ) (answer : ℕ) (new : List ℕ)
       → Reached calls (stored old) → Loads p table key sealed country class old answer new
-      → (answer ≡ 0 → (profile : Profile) × Reached (calls ++ (record { device = deviceOf country class; profile = profile } ∷ [])) (stored new))
+      → (answer ≡ 0
+      → (profile : Profile)
+      × Reached (calls ++ (record { device = deviceOf country class; profile = profile } ∷ [])) (stored new))
       × ((answer ≡ 0 → ⊥) → Reached calls (stored new))

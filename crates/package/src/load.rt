@@ -39,7 +39,8 @@ pub fn open(p: Params, key: &[u8], sealed: &[u8], block: &mut [u8], vs: &mut [u8
     }
 }
 
-// Stores the profile of a package for the device that is set to a country and class. Of the store's image one slot changes.
+// Stores the profile of a package for the device that is set to a country and class. Of the store's image one slot
+// changes.
 pub fn load(
     p: Params,
     store: &mut [u8],
@@ -51,7 +52,9 @@ pub fn load(
     vs: &mut [u8],
 ) -> u8
     requires { ⌜ Scratch p (now block) (now vs) ⌝ }
-    ensures { λ r. ⌜ Loads p classes (now (key .entry)) (now (sealed .entry)) (now (country .entry)) class (now (store .entry)) r (now (store .exit)) ⌝ }
+    ensures { λ r.
+        ⌜ Loads p classes (now (key .entry)) (now (sealed .entry)) (now (country .entry)) class (now (store .entry)) r
+        (now (store .exit)) ⌝ }
 {
     if country.len() != 2 {
         return 10;

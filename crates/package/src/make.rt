@@ -27,7 +27,9 @@ fn seal(
 ) -> u8
     requires { ⌜ SignScratch p (now block) (now vs) (now seeds) (now states) ⌝ }
     requires { ⌜ Room p (now line) (now out) ⌝ }
-    ensures { λ r. ⌜ Seals p (now (private .entry)) (now (master .entry)) (now (salt .entry)) (now (line .entry)) (now (out .entry)) (now (length .entry)) r (now (out .exit)) (now (length .exit)) ⌝ }
+    ensures { λ r.
+        ⌜ Seals p (now (private .entry)) (now (master .entry)) (now (salt .entry)) (now (line .entry))
+        (now (out .entry)) (now (length .entry)) r (now (out .exit)) (now (length .exit)) ⌝ }
 {
     let size = scheme::signature_size(p);
     let end = size + line.len();
@@ -66,7 +68,9 @@ pub fn make_package(
     length: &mut usize,
 ) -> u8
     requires { ⌜ SignScratch p (now block) (now vs) (now seeds) (now states) ⌝ }
-    ensures { λ r. ⌜ MakesPackage p classes (now (private .entry)) (now (master .entry)) (now (salt .entry)) profile (now (out .entry)) (now (length .entry)) r (now (out .exit)) (now (length .exit)) ⌝ }
+    ensures { λ r.
+        ⌜ MakesPackage p classes (now (private .entry)) (now (master .entry)) (now (salt .entry)) profile
+        (now (out .entry)) (now (length .entry)) r (now (out .exit)) (now (length .exit)) ⌝ }
 {
     let refusal = sizes::check_make(p, private, master, salt, out.len());
     if refusal != 0 {
@@ -107,7 +111,9 @@ pub fn make_from_line(
     length: &mut usize,
 ) -> u8
     requires { ⌜ SignScratch p (now block) (now vs) (now seeds) (now states) ⌝ }
-    ensures { λ r. ⌜ MakesFromLine p classes (now (private .entry)) (now (master .entry)) (now (salt .entry)) (now (line .entry)) (now (out .entry)) (now (length .entry)) r (now (out .exit)) (now (length .exit)) ⌝ }
+    ensures { λ r.
+        ⌜ MakesFromLine p classes (now (private .entry)) (now (master .entry)) (now (salt .entry)) (now (line .entry))
+        (now (out .entry)) (now (length .entry)) r (now (out .exit)) (now (length .exit)) ⌝ }
 {
     let refusal = sizes::check_make(p, private, master, salt, out.len());
     if refusal != 0 {

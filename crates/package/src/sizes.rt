@@ -10,7 +10,8 @@ ghost use Rattle.package.specs.Package.{makeSizes, openSizes};
 // The sizes of seeds and salt, and of what is lent for a package.
 pub fn check_make(p: Params, private: &[u8], master: &[u8], salt: &[u8], lent: usize) -> u8
     requires { ⌜ Sound p ⌝ }
-    ensures { λ r. ⌜ r ≡ firstRefusal (makeSizes p (now (private .entry)) (now (master .entry)) (now (salt .entry)) lent) ⌝ }
+    ensures { λ r.
+        ⌜ r ≡ firstRefusal (makeSizes p (now (private .entry)) (now (master .entry)) (now (salt .entry)) lent) ⌝ }
 {
     if private.len() != p.digest {
         return 1;

@@ -77,8 +77,8 @@ run-then : (cs ds : List Call) (ps qs rs : List Profile) → Run ps cs qs → Ru
 run-then [] ds ps qs rs a b = subst (λ (l : List Profile). Run l ds rs) a b
 run-then (c ∷ cs) ds ps qs rs a b = (a .0, a .1, run-then cs ds (a .0) qs rs (a .2) b)
 
--- before the first line qs were stored, and the lines before a place left ps: what the lines from there on make of ps, all lines
--- make of qs
+-- before the first line qs were stored, and the lines before a place left ps: what the lines from there on make of ps,
+-- all lines make of qs
 abbrev pub Left : List Class → List ℕ → List Profile → ℕ → List Profile → Type 0
 Left table input qs at ps =
     (rs : List Profile) → Run ps (callsIn table (cut (drop at input))) rs → Run qs (callsIn table (cut input)) rs
@@ -88,13 +88,15 @@ left-all table input qs rs run = run
 
 module _ (table : List Class) (input : List ℕ) (at end : ℕ) (found : LineAt input at end) (first ps : List Profile)
     (left : Left table input first at ps) where
-  pub left-fewer : at < end → (qs : List Profile) → Run ps (callsOf (readLine table (take (end - at) (drop at input)))) qs
+  pub left-fewer : at < end → (qs : List Profile)
+      → Run ps (callsOf (readLine table (take (end - at) (drop at input)))) qs
       → Left table input first end qs
   unfolding callsIn
   left-fewer h qs run rs others =
       left rs
       (rw (found .line h)
-      (run-then (callsOf (readLine table (take (end - at) (drop at input)))) (callsIn table (cut (drop end input))) ps qs rs run others))
+      (run-then (callsOf (readLine table (take (end - at) (drop at input)))) (callsIn table (cut (drop end input))) ps
+      qs rs run others))
 
   pub left-none : end ≤ at → Run first (callsIn table (cut input)) ps
   unfolding callsIn

@@ -44,7 +44,8 @@ model-run (c ∷ cs) ps =
     let next : List Profile = pick (eqb (answerTo c ps) 0) (insert (c .profile) ps) ps in
     let step : Step c ps next =
     record {
-      taken = λ e. rw (eq-eqb (answerTo c ps) 0 e) (record { finds = λ k. find-insert k (c .profile) ps; listed = perm-eq refl });
+      taken = λ e. rw (eq-eqb (answerTo c ps) 0 e)
+          (record { finds = λ k. find-insert k (c .profile) ps; listed = perm-eq refl });
       kept = λ ne. rw (ne-eqb (answerTo c ps) 0 ne);
     } in
     (next, step, model-run cs next)
@@ -64,8 +65,9 @@ module _ (table : List Class) (input : List ℕ) where
   pub shows-listed : length input ≤ longestInput → (ps : List Profile) → Reached (callsIn table (cut input)) ps
       → Shows table input (header ++ rows ps)
   shows-listed size ps run =
+      let holds = reached-hold (callsIn table (cut input)) ps run in
       record {
-        listed = λ h. record { order = ps; each-once = (reached-hold (callsIn table (cut input)) ps run) .listed; all = refl };
+        listed = λ h. record { order = ps; each-once = holds .listed; all = refl };
         too-long = λ h. absurd (omega arith);
       }
 
@@ -77,7 +79,8 @@ module _ (table : List Class) (input : List ℕ) where
       go true e = (tooLong, shows-too-long (ltb-true longestInput (length input) e))
       go false e = (
         header ++ rows (shown table input),
-        shows-listed (ltb-false longestInput (length input) e) (shown table input) (model-run (callsIn table (cut input)) []),
+        shows-listed (ltb-false longestInput (length input) e) (shown table input)
+            (model-run (callsIn table (cut input)) []),
       )
 
 -- ---- the answer
@@ -88,15 +91,22 @@ module _ (table : List Class) (input old : List ℕ) where
       let other = ne-eqb (length old) lentSize size in
       record { text = some-text table input .0; shows = some-text table input .1; answered = rw other; content = refl }
 
-  pub previews-done : {n : ℕ} {text new : List ℕ} → length old ≡ lentSize → Shows table input text → Appended old 0 text new n
+  pub previews-done : {n : ℕ} {text new : List ℕ} → length old ≡ lentSize → Shows table input text
+      → Appended old 0 text new n
       → n ≤ lentSize → Previews table input old (Length n) new
   previews-done {n} {text} {new} size shows put most =
       let right = eq-eqb (length old) lentSize size in
       let room : Room old 0 text = record { room = omega (arith, put .place) } in
-      record { text = text; shows = shows; answered = rw right (ap done (front-length put room)); content = front put room }
+      record {
+        text = text;
+        shows = shows;
+        answered = rw right (ap done (front-length put room));
+        content = front put room;
+      }
 
 -- the length that is answered lies within the lent bytes
-pub length-within : {table : List Class} {input old lent : List ℕ} {r : Previewed} {n : ℕ} → Previews table input old r lent → r ≡ Length n → n ≤ length lent
+pub length-within : {table : List Class} {input old lent : List ℕ} {r : Previewed} {n : ℕ}
+    → Previews table input old r lent → r ≡ Length n → n ≤ length lent
 length-within {table} {input} {old} {lent} {r} {n} previews answer =
     go (eqb (length old) lentSize) (sym (ap previewAnswer answer) ∙ previews .answered)
   where

@@ -34,7 +34,8 @@ put-part l m ys at end same place room =
           ∙ sym (sets-eq ys l at (omega arith));
     }
 
-pub put-front : (l m ys : List ℕ) → m ≡ ys → length ys ≤ length l → Appended l 0 ys (m ++ drop (length ys) l) (length ys)
+pub put-front : (l m ys : List ℕ) → m ≡ ys → length ys ≤ length l
+    → Appended l 0 ys (m ++ drop (length ys) l) (length ys)
 put-front l m ys same room =
     record {
       place = omega arith;
@@ -81,7 +82,8 @@ profiles-append (s ∷ ss) ts = go (s .used) (profiles-append ss ts)
 rows-append : (ps qs : List Profile) → rows (ps ++ qs) ≡ rows ps ++ rows qs
 unfolding rows
 rows-append [] qs = refl
-rows-append (p ∷ ps) qs = ap (λ (l : List ℕ). row p ++ l) (rows-append ps qs) ∙ sym (append-assoc (row p) (rows ps) (rows qs))
+rows-append (p ∷ ps) qs =
+    ap (λ (l : List ℕ). row p ++ l) (rows-append ps qs) ∙ sym (append-assoc (row p) (rows ps) (rows qs))
 
 -- the rows of the first slots of an image, when a slot's are written after those before it
 abbrev pub rowsBefore : List ℕ → ℕ → List ℕ
@@ -94,10 +96,12 @@ module _ (image : List ℕ) (i : ℕ) where
       let slot : Slot = slotOf (slotBytes i image) in
       let size : length ss ≡ capacity = slots-length capacity image in
       let next : take (i + 1) ss ≡ take i ss ++ (slot ∷ []) =
-      rw (add-one i) (take-suc ss i unset (omega arith)) ∙ ap (λ (s : Slot). take i ss ++ (s ∷ [])) (slot-at capacity i image h) in
+      rw (add-one i) (take-suc ss i unset (omega arith))
+      ∙ ap (λ (s : Slot). take i ss ++ (s ∷ [])) (slot-at capacity i image h) in
       sym
       (ap (λ (l : List Slot). rows (profilesIn l)) next
-      ∙ (ap rows (profiles-append (take i ss) (slot ∷ [])) ∙ rows-append (profilesIn (take i ss)) (profilesIn (slot ∷ []))))
+      ∙ (ap rows (profiles-append (take i ss) (slot ∷ []))
+      ∙ rows-append (profilesIn (take i ss)) (profilesIn (slot ∷ []))))
 
   pub rows-all : capacity ≤ i → rowsBefore image i ≡ rows (stored image)
   rows-all h =

@@ -1,4 +1,5 @@
--- What a device would hold, listed before anything is signed (document 01, "Profile line, package, shelf", the preview program).
+-- What a device would hold, listed before anything is signed (document 01, "Profile line, package, shelf", the preview
+-- program).
 -- Assumes nothing.
 use mathlib.Core.Path.{_≡_}
 use mathlib.Core.List.{List, [], _∷_, _++_}
@@ -34,7 +35,8 @@ cutAfter line (b ∷ bs) =
 abbrev pub cut : List ℕ → List (List ℕ)
 cut bytes = cutAfter [] bytes
 
--- the line that starts at a place of the input ends just before `end`; where no LF ends it, `end` is the place where it starts
+-- the line that starts at a place of the input ends just before `end`; where no LF ends it, `end` is the place where it
+-- starts
 pub record LineAt (input : List ℕ) (at end : ℕ) : Type 0 where
   pub start : at ≤ end
   pub within : end ≤ length input
@@ -56,8 +58,8 @@ unfoldable pub callsIn : List Class → List (List ℕ) → List Call
 callsIn table [] = []
 callsIn table (line ∷ lines) = callsOf (readLine table line) ++ callsIn table lines
 
--- the profiles that the lines of the input, stored in their order, leave in a store that was empty: `model` of crate store
--- goes from line to line and takes in what `put` answers with 0
+-- the profiles that the lines of the input, stored in their order, leave in a store that was empty: `model` of crate
+-- store goes from line to line and takes in what `put` answers with 0
 abbrev pub shown : List Class → List ℕ → List Profile
 shown table input = model [] (callsIn table (cut input))
 
@@ -98,8 +100,8 @@ rows (p ∷ ps) = row p ++ rows ps
 abbrev pub usedIn : List ℕ → List Profile
 usedIn bytes = profilesIn (slotOf bytes ∷ [])
 
--- The order of the rows is the program's choice. Every choice has in common the header, and after it a row for each of these
--- profiles, each once, and nothing else.
+-- The order of the rows is the program's choice. Every choice has in common the header, and after it a row for each of
+-- these profiles, each once, and nothing else.
 pub record Lists (ps : List Profile) (text : List ℕ) : Type 0 where
   pub order : List Profile
   pub each-once : Perm order ps
@@ -124,8 +126,8 @@ abbrev pub previewAnswer : Previewed → Result ℕ
 previewAnswer (Length n) = done n
 previewAnswer BadSize = refused bad-size
 
--- The answer is the length of a text that shows the input. The text stands at the front of the lent bytes, and past it what they
--- held; after a refusal all is as it was.
+-- The answer is the length of a text that shows the input. The text stands at the front of the lent bytes, and past it
+-- what they held; after a refusal all is as it was.
 pub record Previews (table : List Class) (input old : List ℕ) (r : Previewed) (lent : List ℕ) : Type 0 where
   pub text : List ℕ
   pub shows : Shows table input text

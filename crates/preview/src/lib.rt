@@ -69,7 +69,8 @@ fn hold(store: &mut [u8], profile: Profile)
 fn hold_line(store: &mut [u8], line: &[u8])
     requires { ⌜ length (now store) ≡ storeSize ⌝ }
     ensures { λ r.
-        ⌜ Run (stored (now (store .entry))) (callsOf (readLine classes (now (line .entry)))) (stored (now (store .exit))) ⌝ }
+        ⌜ Run (stored (now (store .entry))) (callsOf (readLine classes (now (line .entry))))
+        (stored (now (store .exit))) ⌝ }
 {
     match read_line(line) {
         ReadLine::Read(p) => hold(store, p),
@@ -82,7 +83,8 @@ fn hold_line(store: &mut [u8], line: &[u8])
 fn hold_lines(store: &mut [u8], input: &[u8])
     requires { ⌜ length (now store) ≡ storeSize ⌝ }
     ensures { λ r.
-        ⌜ Run (stored (now (store .entry))) (callsIn classes (cut (now (input .entry)))) (stored (now (store .exit))) ⌝ }
+        ⌜ Run (stored (now (store .entry))) (callsIn classes (cut (now (input .entry))))
+        (stored (now (store .exit))) ⌝ }
 {
     let mut at = 0;
     let mut end = line_end(input, 0);

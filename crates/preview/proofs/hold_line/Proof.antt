@@ -31,21 +31,24 @@ returns c =
     let found = held .before .before .before in
     let read = found .before .before in
     let line = read .before .before .before .args .line .now in
-    let done-with : readLine classes line ≡ readAnswer (Read _) = sym (read .read-line .ensures) ∙ ap readAnswer (found .p .given .1) in
+    let done-with : readLine classes line ≡ readAnswer (Read _) =
+    sym (read .read-line .ensures) ∙ ap readAnswer (found .p .given .1) in
     rw done-with (held .hold .ensures)
 
 returns-2 : tie.Need-returns-2
 returns-2 c =
     let read = c .before .before in
     let line = read .before .before .before .args .line .now in
-    let told : readLine classes line ≡ readAnswer BadSize = sym (read .read-line .ensures) ∙ ap readAnswer (c .enum-told .given .1) in
+    let told : readLine classes line ≡ readAnswer BadSize =
+    sym (read .read-line .ensures) ∙ ap readAnswer (c .enum-told .given .1) in
     rw told refl
 
 returns-3 : tie.Need-returns-3
 returns-3 c =
     let read = c .before .before in
     let line = read .before .before .before .args .line .now in
-    let told : readLine classes line ≡ readAnswer BadLine = sym (read .read-line .ensures) ∙ ap readAnswer (c .enum-told2 .given .1) in
+    let told : readLine classes line ≡ readAnswer BadLine =
+    sym (read .read-line .ensures) ∙ ap readAnswer (c .enum-told2 .given .1) in
     rw told refl
 
 pub hold-line-spec : {M : Type 1} → statement M

@@ -1,4 +1,5 @@
--- `preview::hold_lines` meets its contract: the lines that were passed are stored, and a line is next or none is. Assumes nothing.
+-- `preview::hold_lines` meets its contract: the lines that were passed are stored, and a line is next or none is.
+-- Assumes nothing.
 use mathlib.Core.Path.{_≡_}
 use Prim.Native.Nat.{_-_}
 use native.Mathlib.Omega.{arith}
@@ -49,12 +50,12 @@ loop-again c =
     let held = c .before .before .before in
     let tested = held .before .before .before in
     let turn = tested .before in
-    let a = turn .before .before .before .before .args in (
-      c .line-end2 .ensures,
-      left-fewer classes (a .input .now) (turn .loop .at) (turn .loop .end) (turn .loop .inv .0) (stored (a .store .now)) (stored (turn .loop .store))
-          (turn .loop .inv .1) (tested .loop-test .taken) (stored (held .hold-line .last .0)) (held .hold-line .ensures),
-      search needs,
-    )
+    let a = turn .before .before .before .before .args in
+    let fewer =
+    left-fewer classes (a .input .now) (turn .loop .at) (turn .loop .end) (turn .loop .inv .0) (stored (a .store .now))
+    (stored (turn .loop .store)) (turn .loop .inv .1) (tested .loop-test .taken)
+    (stored (held .hold-line .last .0)) (held .hold-line .ensures) in
+    (c .line-end2 .ensures, fewer, search needs)
 
 same-length : tie.Need-same-length Inv-loop μ-loop
 same-length c = search needs
@@ -63,7 +64,8 @@ returns : tie.Need-returns Inv-loop μ-loop
 returns c =
     let turn = c .before in
     let a = turn .before .before .before .before .args in
-    left-none classes (a .input .now) (turn .loop .at) (turn .loop .end) (turn .loop .inv .0) (stored (a .store .now)) (stored (turn .loop .store))
+    left-none classes (a .input .now) (turn .loop .at) (turn .loop .end) (turn .loop .inv .0) (stored (a .store .now))
+    (stored (turn .loop .store))
     (turn .loop .inv .1) (c .loop-test .left)
 
 pub hold-lines-spec : {M : Type 1} → statement M

@@ -69,9 +69,11 @@ returns-3 c =
     let args = sized .before .before .before .args in
     let input = args .input .now in
     let held-in = stored (held .hold-lines .last .0) in
-    let reached = subst (λ (l : List Profile). Run l (callsIn classes (cut input)) held-in) zeros-empty (held .hold-lines .ensures) in
+    let reached = subst (λ (l : List Profile). Run l (callsIn classes (cut input)) held-in) zeros-empty
+    (held .hold-lines .ensures) in
     let shows = shows-listed classes input (short .if2 .left) held-in reached in
-    previews-done classes input (args .out .now) (sized .if1 .left) shows (then (headed .put-text2 .ensures) (listed .put-rows .ensures .0))
+    previews-done classes input (args .out .now) (sized .if1 .left) shows
+    (then (headed .put-text2 .ensures) (listed .put-rows .ensures .0))
     (omega (arith, listed .put-rows .ensures .1, headed .put-text2 .ensures .place))
 
 pub preview-spec : {M : Type 1} → statement M

@@ -40,11 +40,13 @@ keyed c =
     let out = start c .args .out .now in
     take at out ++ (c .before .before .before .copy .last .0 ++ drop (at + 5 - at) (drop at out))
 
-key-put : (c : tie.After-write-decimal-arg)
-    → Appended (start c .args .out .now) (start c .args .at) (keyBytes (start c .args .p)) (keyed c) (start c .args .at + 5)
+key-put : (c : tie.After-write-decimal-arg) →
+    let a = start c .args in
+    Appended (a .out .now) (a .at) (keyBytes (a .p)) (keyed c) (a .at + 5)
 key-put c =
     let s = start c in
-    put-part (s .args .out .now) (c .before .before .before .copy .last .0) (keyBytes (s .args .p)) (s .args .at) (s .args .at + 5)
+    put-part (s .args .out .now) (c .before .before .before .copy .last .0) (keyBytes (s .args .p)) (s .args .at)
+    (s .args .at + 5)
     (c .before .before .before .copy .ensures) refl (omega (arith, s .pre))
 
 digits : (c : tie.After-write-decimal-arg) → length (decimal (start c .args .p .serial)) ≤ 10
@@ -62,7 +64,8 @@ row c =
 slice-write-out : tie.Need-slice-write-out
 slice-write-out c =
     let keyed = c .before .before .before in
-    omega (arith, start keyed .pre, row c .1, appended-length (key-put keyed), appended-length (c .before .before .write-decimal .ensures))
+    let serial = appended-length (c .before .before .write-decimal .ensures) in
+    omega (arith, start keyed .pre, row c .1, appended-length (key-put keyed))
 
 add-result : tie.Need-add-result
 add-result c = omega (arith, start (c .before .before .before) .pre, row c .1)

@@ -28,7 +28,8 @@ returns : tie.Need-returns
 returns c =
     let start = c .before .before .before .before .before .before in
     let copy = c .before .before .copy in
-    put-front (start .args .out .now) (copy .last .0) (start .args .text .now) (copy .ensures) (omega (arith, start .pre .room))
+    put-front (start .args .out .now) (copy .last .0) (start .args .text .now) (copy .ensures)
+    (omega (arith, start .pre .room))
 
 pub put-text-spec : {M : Type 1} → statement M
 put-text-spec =

@@ -18,7 +18,8 @@ ones-is c =
 
 zeros-is : (c : tie.After-part-size2) →
     let start = c .before .before .before .before in
-    (start .args .p .t - start .args .p .w) * c .part-size2 .result ≡ (start .args .p .t - start .args .p .w) * partSize (start .args .p) 0
+    (start .args .p .t - start .args .p .w) * c .part-size2 .result
+    ≡ (start .args .p .t - start .args .p .w) * partSize (start .args .p) 0
 zeros-is c =
     let start = c .before .before .before .before in
     ap (λ (k : ℕ). (start .args .p .t - start .args .p .w) * k) (c .part-size2 .ensures)

@@ -1,4 +1,5 @@
--- `package::load::load` meets its contract: the device, the store's size, opening, and then the store's answer. Assumes nothing.
+-- `package::load::load` meets its contract: the device, the store's size, opening, and then the store's answer.
+-- Assumes nothing.
 use mathlib.Core.Path.{_≡_, _∙_, sym, ap, subst}
 use mathlib.Core.Bool.{true}
 use borrow.Author.Needs.{needs}
@@ -40,7 +41,8 @@ set c = sym (answered (c .before)) ∙ not-false _ (c .if2 .left)
 returns : tie.Need-returns
 returns c =
     let a = c .before .before .before .before .before .before .before .args in
-    load-country (a .p) classes (a .key .now) (a .sealed .now) (a .country .now) (a .class) (a .store .now) (c .if1 .taken)
+    load-country (a .p) classes (a .key .now) (a .sealed .now) (a .country .now) (a .class) (a .store .now)
+    (c .if1 .taken)
 
 device-of-requires : tie.Need-device-of-requires
 device-of-requires c κs = search needs
@@ -53,7 +55,8 @@ returns-2 c =
     let asked = c .before in
     let two = at-two asked in
     let a = entry two .args in
-    load-device (a .p) classes (a .key .now) (a .sealed .now) (a .country .now) (a .class) (a .store .now) (two .if1 .left)
+    load-device (a .p) classes (a .key .now) (a .sealed .now) (a .country .now) (a .class) (a .store .now)
+    (two .if1 .left)
     (sym (answered asked) ∙ not-true _ (c .if2 .taken))
 
 returns-3 : tie.Need-returns-3
@@ -61,7 +64,8 @@ returns-3 c =
     let settled = c .before in
     let two = at-two (settled .before) in
     let a = entry two .args in
-    load-size (a .p) classes (a .key .now) (a .sealed .now) (a .country .now) (a .class) (a .store .now) (two .if1 .left)
+    load-size (a .p) classes (a .key .now) (a .sealed .now) (a .country .now) (a .class) (a .store .now)
+    (two .if1 .left)
     (set settled) (c .if3 .taken)
 
 open-requires : tie.Need-open-requires
@@ -95,7 +99,8 @@ returns-4 c =
     let two = at-two (settled .before) in
     let a = entry two .args in
     let opens =
-    subst (λ (o : Opened). Opens (a .p) classes (a .key .now) (a .sealed .now) o) (found .profile .given .1) (asked .«open» .ensures) in
+    subst (λ (o : Opened). Opens (a .p) classes (a .key .now) (a .sealed .now) o) (found .profile .given .1)
+    (asked .«open» .ensures) in
     load-put (a .p) classes (a .key .now) (a .sealed .now) (a .country .now) (a .class) (a .store .now) (two .if1 .left)
     (set settled) (whole .if3 .left) _ (settled .before .before .device-of .ensures) opens (stored .put .ensures)
 
@@ -113,9 +118,11 @@ returns-5 c =
     let settled = at-set whole in
     let two = at-two (settled .before) in
     let a = entry two .args in
-    load-refused (a .p) classes (a .key .now) (a .sealed .now) (a .country .now) (a .class) (a .store .now) (two .if1 .left)
+    load-refused (a .p) classes (a .key .now) (a .sealed .now) (a .country .now) (a .class) (a .store .now)
+    (two .if1 .left)
     (set settled) (whole .if3 .left)
-    (subst (λ (o : Opened). Opens (a .p) classes (a .key .now) (a .sealed .now) o) (found .refusal .given .1) (asked .«open» .ensures))
+    (subst (λ (o : Opened). Opens (a .p) classes (a .key .now) (a .sealed .now) o) (found .refusal .given .1)
+    (asked .«open» .ensures))
 
 pub load-spec : {M : Type 1} → statement M
 load-spec =

@@ -10,7 +10,15 @@ use Rattle.profile.specs.Rules.{classes}
 use Rattle.profile.specs.Line.{readLine, readAnswer}
 use Rattle.scheme.specs.Verify.{verify}
 use Rattle.package.specs.Package.{signatureIn, lineIn, openSizes}
-use Rattle.package.proofs.OpenLaws.{signature-within, verify-parts, read-part, open-sizes, open-verify, open-line, open-profile}
+use Rattle.package.proofs.OpenLaws.{
+  signature-within,
+  verify-parts,
+  read-part,
+  open-sizes,
+  open-verify,
+  open-line,
+  open-profile,
+}
 use Rattle.package.proofs.load.open.Statement.{statement}
 use Rattle.package.proofs.load.open.Tie as tie
 
@@ -46,7 +54,8 @@ within c =
 -- the verifier was asked of the package's line and signature
 answered : (c : tie.After-verify) →
     let a = entry (at-size c .before) .args in
-    c .verify .result ≡ verify (a .p) (a .key .now) (lineIn (a .p) (a .sealed .now)) (signatureIn (a .p) (a .sealed .now))
+    c .verify .result ≡ verify (a .p) (a .key .now) (lineIn (a .p) (a .sealed .now))
+    (signatureIn (a .p) (a .sealed .now))
 answered c =
     let size = at-size c .signature-size in
     let a = entry (at-size c .before) .args in
@@ -64,7 +73,8 @@ read : (c : tie.After-read-line) →
 read c =
     let place = at-size (at-verify (passed c)) in
     let a = entry (place .before) .args in
-    read-part (a .p) (a .sealed .now) (place .signature-size .result) (place .signature-size .ensures) classes (c .read-line .ensures)
+    read-part (a .p) (a .sealed .now) (place .signature-size .result) (place .signature-size .ensures) classes
+    (c .read-line .ensures)
 
 -- ---- needs
 
@@ -75,7 +85,8 @@ returns : tie.Need-returns
 returns c =
     let sizes = c .before in
     let a = sizes .before .before .before .before .before .args in
-    open-sizes (a .p) classes (a .key .now) (a .sealed .now) (sizes .check-open .result) (sizes .check-open .ensures) (c .if1 .taken)
+    open-sizes (a .p) classes (a .key .now) (a .sealed .now) (sizes .check-open .result) (sizes .check-open .ensures)
+    (c .if1 .taken)
 
 signature-size-requires : tie.Need-signature-size-requires
 signature-size-requires c κs = search needs
@@ -106,7 +117,8 @@ returns-2 c =
     let asked = c .before .before .before .before .before in
     let right = at-size asked .before in
     let a = entry right .args in
-    open-verify (a .p) classes (a .key .now) (a .sealed .now) (sized right) (asked .verify .result) (answered asked) (c .if2 .taken)
+    open-verify (a .p) classes (a .key .now) (a .sealed .now) (sized right) (asked .verify .result) (answered asked)
+    (c .if2 .taken)
 
 sub-read-line : tie.Need-sub-read-line
 sub-read-line c = within (at-size (at-verify c))

@@ -1,32 +1,62 @@
 -- `make_package`: sizes, then the line in local bytes, then that line is sealed. Assumes nothing.
-use mathlib.Core.Path.{subst}
+use mathlib.Core.Path.{_≡_, subst}
 use native.Mathlib.Omega.{arith}
 use borrow.Author.Needs.{needs}
 use Rattle.profile.specs.declared.WriteLine.{WriteLine}
-use Rattle.profile.specs.declared.WriteLine.the-variants.{Written}
+use Rattle.profile.specs.declared.WriteLine.the-variants.{Written, BadSize, BadProfile}
 use Rattle.profile.specs.Rules.{classes}
 use Rattle.profile.specs.Line.{Writes}
-use Rattle.package.proofs.MakeLaws.{front-length, blank, never-small, written-short, front-room, make-sizes, make-broken, make-sealed}
+use Rattle.package.proofs.MakeLaws.{
+  front-length,
+  blank,
+  never-small,
+  written-short,
+  front-room,
+  make-sizes,
+  make-broken,
+  make-sealed,
+}
 use Rattle.package.proofs.make.make_package.Statement.{statement}
 use Rattle.package.proofs.make.make_package.Tie as tie
 
--- the local bytes, as `write_line` left them where it wrote
+-- ---- places of the code, each from the next
+
+abbrev entry : tie.After-check-make → tie.Start
+entry c = c .before .before .before .before .before .before .before .before .before
+
+abbrev at-sizes : tie.After-write-line → tie.Else1
+at-sizes c = c .before .before
+
+abbrev at-write : tie.After-n → tie.After-write-line
+at-write c = c .before .before .before
+
+-- the local bytes, as `write_line` left them where it gave this answer
+answered : (c : tie.After-write-line) (r : WriteLine) → c .write-line .result ≡ r
+    → Writes classes (entry (at-sizes c .before) .args .profile) blank r (c .write-line .last .1 .0)
+answered c r told =
+    let a = entry (at-sizes c .before) .args in
+    subst (λ (w : WriteLine). Writes classes (a .profile) blank w (c .write-line .last .1 .0)) told
+    (c .write-line .ensures)
+
+-- where it wrote
 written : (c : tie.After-n) →
-    let start = c .before .before .before .before .before .before .before .before .before .before .before .before .before .before .before in
-    Writes classes (start .args .profile) blank (Written (c .n .given .0 .0)) (c .before .before .before .write-line .last .1 .0)
-written c =
-    let start = c .before .before .before .before .before .before .before .before .before .before .before .before .before .before .before in
-    let call = c .before .before .before .write-line in
-    subst (λ (r : WriteLine). Writes classes (start .args .profile) blank r (call .last .1 .0)) (c .n .given .1) (call .ensures)
+    let call = at-write c in
+    Writes classes (entry (at-sizes call .before) .args .profile) blank (Written (c .n .given .0 .0))
+    (call .write-line .last .1 .0)
+written c = answered (at-write c) (Written (c .n .given .0 .0)) (c .n .given .1)
+
+-- ---- needs
 
 check-make-requires : tie.Need-check-make-requires
 check-make-requires c κs = search needs
 
 returns : tie.Need-returns
 returns c =
-    let a = c .before .before .before .before .before .before .before .before .before .before .args in
-    let sized = c .before .check-make in
-    make-sizes (a .p) classes (a .private .now) (a .master .now) (a .salt .now) (a .profile) (a .out .now) (a .length .now) (sized .result) (c .if1 .taken) (sized .ensures)
+    let sized = c .before in
+    let a = entry sized .args in
+    make-sizes (a .p) classes (a .private .now) (a .master .now) (a .salt .now) (a .profile) (a .out .now)
+    (a .length .now)
+    (sized .check-make .result) (c .if1 .taken) (sized .check-make .ensures)
 
 slice-aggregate-write-line : tie.Need-slice-aggregate-write-line
 slice-aggregate-write-line c = search needs
@@ -39,23 +69,32 @@ enum-known-n c = search needs
 
 array-share-prefix-line : tie.Need-array-share-prefix-line
 array-share-prefix-line c =
-    let a = c .before .before .before .before .before .before .before .before .before .before .before .before .before .before .before .before .args in
-    let call = c .before .before .before .before .write-line in
-    let node = c .before in
-    omega (arith, call .kept .1 .0, written-short classes (a .profile) (call .last .1 .0) (node .n .given .0 .0) (written node))
+    let found = c .before in
+    let call = at-write found in
+    let a = entry (at-sizes call .before) .args in
+    let bytes = call .write-line .last .1 .0 in
+    let short = written-short classes (a .profile) bytes (found .n .given .0 .0) (written found) in
+    omega (arith, call .write-line .kept .1 .0)
 
 slice-aggregate-seal : tie.Need-slice-aggregate-seal
-slice-aggregate-seal c = front-length _ (c .before .before .before .before .before .write-line .last .1 .0) (array-share-prefix-line (c .before))
+slice-aggregate-seal c =
+    let told = c .before in
+    front-length _ (at-write (told .before) .write-line .last .1 .0) (array-share-prefix-line told)
 
 seal-requires : tie.Need-seal-requires
 seal-requires c κs =
-    let start = c .before .before .before .before .before .before .before .before .before .before .before .before .before .before .before .before .before .before .before .before .before .before .before in
-    let a = start .args in
-    let sized = c .before .before .before .before .before .before .before .before .before .before .before .before .before .before .check-make in
-    let call = c .before .before .before .before .before .before .before .before .before .before .before .write-line in (
+    let told = c .before .before .before .before .before .before .before in
+    let call = at-write (told .before) in
+    let bytes = call .write-line .last .1 .0 in
+    let passed = at-sizes call in
+    let sized = passed .before .check-make in
+    let start = entry (passed .before) in
+    let a = start .args in (
       start .pre,
-      front-room (a .p) classes (a .private .now) (a .master .now) (a .salt .now) (a .profile) (a .out .now) (a .length .now)
-          (sized .result) (sized .ensures) (c .before .before .before .before .before .before .before .before .before .before .before .before .before .if1 .left) _ (call .last .1 .0) (call .kept .1 .0) (array-share-prefix-line (c .before .before .before .before .before .before .before)),
+      front-room (a .p) classes (a .private .now) (a .master .now) (a .salt .now) (a .profile) (a .out .now)
+          (a .length .now)
+          (sized .result) (sized .ensures) (passed .if1 .left) _ bytes (call .write-line .kept .1 .0)
+          (array-share-prefix-line told),
     )
 
 enum-told : tie.Need-enum-told
@@ -81,29 +120,34 @@ same-length-5 c = search needs
 
 returns-2 : tie.Need-returns-2
 returns-2 c =
-    let a = c .before .before .before .before .before .before .before .before .before .before .before .before .before .before .before .before .before .before .before .before .before .before .before .before .before .before .before .before .before .before .before .before .before .before .args in
-    let sized = c .before .before .before .before .before .before .before .before .before .before .before .before .before .before .before .before .before .before .before .before .before .before .before .before .before .check-make in
-    let new = c .before .before .before .before .before .before .before .before .before .before .before .before .before .before .before .before .before .before .before .before .before .before .write-line .last .1 .0 in
-    let node = c .before .before .before .before .before .before .before .before .before .before .before .before .before .before .before .before .before .before .before in
-    make-sealed (a .p) classes (a .private .now) (a .master .now) (a .salt .now) (a .profile) (a .out .now) (a .length .now)
-    (sized .result) (sized .ensures) (c .before .before .before .before .before .before .before .before .before .before .before .before .before .before .before .before .before .before .before .before .before .before .before .before .if1 .left) new (node .n .given .0 .0) (written node) (c .before .before .before .before .before .before .before .before .before .before .seal .ensures)
+    let sealed = c .before .before .before .before .before .before .before .before .before .before in
+    let found = sealed .before .before .before .before .before .before .before .before .before in
+    let call = at-write found in
+    let passed = at-sizes call in
+    let sized = passed .before .check-make in
+    let a = entry (passed .before) .args in
+    make-sealed (a .p) classes (a .private .now) (a .master .now) (a .salt .now) (a .profile) (a .out .now)
+    (a .length .now)
+    (sized .result) (sized .ensures) (passed .if1 .left) (call .write-line .last .1 .0) (found .n .given .0 .0)
+    (written found) (sealed .seal .ensures)
 
 returns-3 : tie.Need-returns-3
 returns-3 c =
-    let a = c .before .before .before .before .before .before .before .before .before .before .before .before .before .before .before .args in
-    let call = c .before .before .before .write-line in
-    absurd
-    (never-small classes (a .profile) (call .last .1 .0)
-    (subst (λ (r : WriteLine). Writes classes (a .profile) blank r (call .last .1 .0)) (c .enum-told .given .1) (call .ensures)))
+    let call = c .before .before .before in
+    let a = entry (at-sizes call .before) .args in
+    absurd (never-small classes (a .profile) (call .write-line .last .1 .0)
+    (answered call BadSize (c .enum-told .given .1)))
 
 returns-4 : tie.Need-returns-4
 returns-4 c =
-    let a = c .before .before .before .before .before .before .before .before .before .before .before .before .before .before .before .args in
-    let sized = c .before .before .before .before .before .before .check-make in
-    let call = c .before .before .before .write-line in
-    make-broken (a .p) classes (a .private .now) (a .master .now) (a .salt .now) (a .profile) (a .out .now) (a .length .now)
-    (sized .result) (sized .ensures) (c .before .before .before .before .before .if1 .left) (call .last .1 .0)
-    (subst (λ (r : WriteLine). Writes classes (a .profile) blank r (call .last .1 .0)) (c .enum-told2 .given .1) (call .ensures))
+    let call = c .before .before .before in
+    let passed = at-sizes call in
+    let sized = passed .before .check-make in
+    let a = entry (passed .before) .args in
+    make-broken (a .p) classes (a .private .now) (a .master .now) (a .salt .now) (a .profile) (a .out .now)
+    (a .length .now)
+    (sized .result) (sized .ensures) (passed .if1 .left) (call .write-line .last .1 .0)
+    (answered call BadProfile (c .enum-told2 .given .1))
 
 pub make-package-spec : {M : Type 1} → statement M
 make-package-spec =

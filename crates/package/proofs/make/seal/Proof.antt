@@ -4,6 +4,16 @@ use Rattle.package.proofs.MakeLaws.{part-length, seal-refused, seal-don
 use Rattle.package.proofs.make.seal.Statement.{statement}
 use Rattle.package.proofs.make.seal.Tie as tie
 
+-- ---- places of the code, each from the next
+
+abbrev entry : tie.After-signature-size → tie.Start
+entry c = c .before .before .before .before .before .before .before .before .before .before
+
+abbrev at-size : tie.After-sign → tie.After-signature-size
+at-size c = c .before .before .before .before .before .before
+
+-- ---- needs
+
 signature-size-requires : tie.Need-signature-size-requires
 signature-size-requires c κs = search needs
 
@@ -15,10 +25,12 @@ slice-relend-prefix-sign c = search needs
 
 slice-aggregate-sign : tie.Need-slice-aggregate-sign
 slice-aggregate-sign c =
-    let start = c .before .before .before .before .before .before .before .before .before .before .before .before .before .before .before in
+    let place = c .before .before .before .before .before in
+    let start = entry place in
     let a = start .args in
-    let size = c .before .before .before .before .before .signature-size in
-    part-length (a .p) (a .private .now) (a .master .now) (a .salt .now) (a .line .now) (a .out .now) (size .result) (size .ensures) (start .pre .1)
+    let size = place .signature-size in
+    part-length (a .p) (a .private .now) (a .master .now) (a .salt .now) (a .line .now) (a .out .now)
+    (size .result) (size .ensures) (start .pre .1)
 
 sign-requires : tie.Need-sign-requires
 sign-requires c κs = search needs
@@ -40,12 +52,14 @@ same-length-5 c = search needs
 
 returns : tie.Need-returns
 returns c =
-    let start = c .before .before .before .before .before .before .before .before .before .before .before .before .before .before .before .before .before .before .before .before .before .before .before .before .before .before .before in
+    let signed = c .before .before .before .before .before .before .before .before .before .before .before in
+    let start = entry (at-size signed) in
     let a = start .args in
-    let size = c .before .before .before .before .before .before .before .before .before .before .before .before .before .before .before .before .before .signature-size in
-    let signing = c .before .before .before .before .before .before .before .before .before .before .before .sign in
-    seal-refused (a .p) (a .private .now) (a .master .now) (a .salt .now) (a .line .now) (a .out .now) (size .result) (size .ensures) (start .pre .1)
-    (signing .result) (signing .last .1 .1 .1 .1 .1 .1 .1 .1 .1 .0) (signing .ensures) (a .length .now) (c .if1 .taken)
+    let size = at-size signed .signature-size in
+    let sign = signed .sign in
+    seal-refused (a .p) (a .private .now) (a .master .now) (a .salt .now) (a .line .now) (a .out .now)
+    (size .result) (size .ensures) (start .pre .1)
+    (sign .result) (sign .last .1 .1 .1 .1 .1 .1 .1 .1 .1 .0) (sign .ensures) (a .length .now) (c .if1 .taken)
 
 sub-copy : tie.Need-sub-copy
 sub-copy c = search needs
@@ -76,13 +90,17 @@ same-length-10 c = search needs
 
 returns-2 : tie.Need-returns-2
 returns-2 c =
-    let start = c .before .before .before .before .before .before .before .before .before .before .before .before .before .before .before .before .before .before .before .before .before .before .before .before .before .before .before .before .before .before .before in
+    let copied = c .before .before in
+    let passed = copied .before .before in
+    let signed = passed .before .before .before .before .before .before .before .before .before .before .before in
+    let start = entry (at-size signed) in
     let a = start .args in
-    let size = c .before .before .before .before .before .before .before .before .before .before .before .before .before .before .before .before .before .before .before .before .before .signature-size in
-    let signing = c .before .before .before .before .before .before .before .before .before .before .before .before .before .before .before .sign in
-    let copied = c .before .before .copy in
-    seal-done (a .p) (a .private .now) (a .master .now) (a .salt .now) (a .line .now) (a .out .now) (size .result) (size .ensures) (start .pre .1)
-    (signing .result) (signing .last .1 .1 .1 .1 .1 .1 .1 .1 .1 .0) (signing .ensures) (start .pre .0 .0) (c .before .before .before .before .if1 .left) (a .length .now) (copied .last .0) (copied .ensures)
+    let size = at-size signed .signature-size in
+    let sign = signed .sign in
+    seal-done (a .p) (a .private .now) (a .master .now) (a .salt .now) (a .line .now) (a .out .now)
+    (size .result) (size .ensures) (start .pre .1)
+    (sign .result) (sign .last .1 .1 .1 .1 .1 .1 .1 .1 .1 .0) (sign .ensures) (start .pre .0 .0) (passed .if1 .left)
+    (a .length .now) (copied .copy .last .0) (copied .copy .ensures)
 
 pub seal-spec : {M : Type 1} → statement M
 seal-spec =

@@ -5,10 +5,33 @@ use native.Mathlib.Omega.{arith}
 use borrow.Author.Needs.{needs}
 use borrow.Author.Tests.{eq-eqb, ne-eqb}
 use lib.ListN.{length}
+use Rattle.profile.specs.Line.{longest}
 use Rattle.package.specs.Package.{packageMax}
 use Rattle.scheme.proofs.Bounds.{signature-bounded}
 use Rattle.package.proofs.sizes.check_make.Statement.{statement}
 use Rattle.package.proofs.sizes.check_make.Tie as tie
+
+-- ---- places of the code, each from the next
+
+abbrev entry : tie.Else1 → tie.Start
+entry c = c .before .before .before .before .before
+
+abbrev first : tie.Else2 → tie.Else1
+first c = c .before .before
+
+abbrev second : tie.Else3 → tie.Else2
+second c = c .before .before
+
+abbrev third : tie.After-signature-size → tie.Else3
+third c = c .before
+
+-- what is to be lent, as the code computes it
+max : (c : tie.After-signature-size) →
+    let a = entry (first (second (third c))) .args in
+    c .signature-size .result + longest ≡ packageMax (a .p)
+max c = ap (λ (k : ℕ). k + longest) (c .signature-size .ensures)
+
+-- ---- needs
 
 returns : tie.Need-returns
 returns c =
@@ -17,19 +40,22 @@ returns c =
 
 returns-2 : tie.Need-returns-2
 returns-2 c =
-    let a = c .before .before .before .before .before .before .before .args in
+    let one = c .before .before in
+    let a = entry one .args in
     rw (
-      eq-eqb (length (a .private .now)) (a .p .digest) (c .before .before .if1 .left),
+      eq-eqb (length (a .private .now)) (a .p .digest) (one .if1 .left),
       ne-eqb (length (a .master .now)) (a .p .seed) (c .if2 .taken),
     )
     refl
 
 returns-3 : tie.Need-returns-3
 returns-3 c =
-    let a = c .before .before .before .before .before .before .before .before .before .args in
+    let two = c .before .before in
+    let one = first two in
+    let a = entry one .args in
     rw (
-      eq-eqb (length (a .private .now)) (a .p .digest) (c .before .before .before .before .if1 .left),
-      eq-eqb (length (a .master .now)) (a .p .seed) (c .before .before .if2 .left),
+      eq-eqb (length (a .private .now)) (a .p .digest) (one .if1 .left),
+      eq-eqb (length (a .master .now)) (a .p .seed) (two .if2 .left),
       ne-eqb (length (a .salt .now)) (a .p .digest) (c .if3 .taken),
     )
     refl
@@ -39,30 +65,34 @@ signature-size-requires c κs = search needs
 
 add-if4 : tie.Need-add-if4
 add-if4 c =
-    let start = c .before .before .before .before .before .before .before .before .before .before in
+    let start = entry (first (second (third c))) in
     omega (arith, c .signature-size .ensures, signature-bounded (start .args .p) (start .pre))
 
 returns-4 : tie.Need-returns-4
 returns-4 c =
-    let a = c .before .before .before .before .before .before .before .before .before .before .before .args in
-    let max : c .before .signature-size .result + 72 ≡ packageMax (a .p) = ap (λ (k : ℕ). k + 72) (c .before .signature-size .ensures) in
+    let three = third (c .before) in
+    let two = second three in
+    let one = first two in
+    let a = entry one .args in
     rw (
-      eq-eqb (length (a .private .now)) (a .p .digest) (c .before .before .before .before .before .before .if1 .left),
-      eq-eqb (length (a .master .now)) (a .p .seed) (c .before .before .before .before .if2 .left),
-      eq-eqb (length (a .salt .now)) (a .p .digest) (c .before .before .if3 .left),
-      ne-eqb (a .lent) (packageMax (a .p)) (λ e. c .if4 .taken (e ∙ sym max)),
+      eq-eqb (length (a .private .now)) (a .p .digest) (one .if1 .left),
+      eq-eqb (length (a .master .now)) (a .p .seed) (two .if2 .left),
+      eq-eqb (length (a .salt .now)) (a .p .digest) (three .if3 .left),
+      ne-eqb (a .lent) (packageMax (a .p)) (λ e. c .if4 .taken (e ∙ sym (max (c .before)))),
     )
     refl
 
 returns-5 : tie.Need-returns-5
 returns-5 c =
-    let a = c .before .before .before .before .before .before .before .before .before .before .before .args in
-    let max : c .before .signature-size .result + 72 ≡ packageMax (a .p) = ap (λ (k : ℕ). k + 72) (c .before .signature-size .ensures) in
+    let three = third (c .before) in
+    let two = second three in
+    let one = first two in
+    let a = entry one .args in
     rw (
-      eq-eqb (length (a .private .now)) (a .p .digest) (c .before .before .before .before .before .before .if1 .left),
-      eq-eqb (length (a .master .now)) (a .p .seed) (c .before .before .before .before .if2 .left),
-      eq-eqb (length (a .salt .now)) (a .p .digest) (c .before .before .if3 .left),
-      eq-eqb (a .lent) (packageMax (a .p)) (c .if4 .left ∙ max),
+      eq-eqb (length (a .private .now)) (a .p .digest) (one .if1 .left),
+      eq-eqb (length (a .master .now)) (a .p .seed) (two .if2 .left),
+      eq-eqb (length (a .salt .now)) (a .p .digest) (three .if3 .left),
+      eq-eqb (a .lent) (packageMax (a .p)) (c .if4 .left ∙ max (c .before)),
     )
     refl
 
