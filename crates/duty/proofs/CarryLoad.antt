@@ -12,12 +12,10 @@ use Rattle.outcome.specs.Answer.{Check, AnswersFront}
 use Rattle.parameters.specs.declared.Params.{Params}
 use Rattle.parameters.specs.Sound.{Sound}
 use Rattle.profile.specs.declared.Profile.{Profile}
+use Rattle.profile.specs.Rules.{Class}
 use Rattle.profile.specs.Line.{lineOf}
 use Rattle.scheme.specs.Key.{publicKey}
 use Rattle.scheme.specs.Sign.{signatureSize}
-use Rattle.store.specs.declared.Device.{Device}
-use Rattle.store.specs.declared.Store.{Store}
-use Rattle.store.specs.declared.PutAnswer.{PutAnswer}
 use Rattle.package.specs.Entries.{MakesPackage, Loads}
 use Rattle.package.proofs.TheoremLaws.{made-passed}
 use Rattle.package.proofs.Theorems.{made-loads}
@@ -41,29 +39,29 @@ pub made-length : {cs : List Check} {made old : List ℕ} {k : ℕ} {lent : List
     → AnswersFront cs made old 0 k lent size → size ≡ length (take size lent)
 made-length a = sym (length-take-le _ _ (made-within a))
 
-pub makes-and-loads : {p : Params} → Sound p
-    → {private master salt : List ℕ} {profile : Profile} {device : Device} {store : Store} {old : List ℕ} {r : Loaded}
-    {public out : List ℕ} {size : ℕ}
+pub makes-and-loads : {p : Params} {table : List Class} → Sound p
+    → {private master salt : List ℕ} {profile : Profile} {country : List ℕ} {class : ℕ} {store old : List ℕ} {r : Loaded}
+    {public store′ out : List ℕ} {size : ℕ}
     → MakesKeyAnew p private (r .key) public
-    → MakesPackage p private master salt profile old 0 (r .make) out size
-    → Loads p public (take size out) device store (record { answer = r .load; store = r .store })
-    → MakesAndLoads p private master salt profile device store old r out
-makes-and-loads {p} sound {private} {master} {salt} {profile} {device} {store} {old} {r} {public} {out} {size}
-    wrote made loaded =
-    let put : PutAnswer = record { answer = r .load; store = r .store } in
+    → MakesPackage p table private master salt profile old 0 (r .make) out size
+    → Loads p table public (take size out) country class store (r .load) store′
+    → MakesAndLoads p table private master salt profile country class store old r store′ out
+makes-and-loads {p} {table} sound {private} {master} {salt} {profile} {country} {class} {store} {old} {r} {public} {store′}
+    {out} {size} wrote made loaded =
     record {
       public = public;
       key-answer = wrote;
       size = size;
       make-answer = made;
       load-answer = loaded;
-      loads = λ zero country class newer room.
-          let sealed : MakesPackage p private master salt profile old 0 0 out size = rw zero at made in
-          let passed = made-passed p private master salt profile (length old) (sym (sealed .answers .answer)) in
+      loads = λ zero two same letter whole newer room.
+          let sealed : MakesPackage p table private master salt profile old 0 0 out size = rw zero at made in
+          let passed = made-passed p table private master salt profile (length old) (sym (sealed .answers .answer)) in
           let key = key-made p private master salt (lineOf profile) (signatureSize p) (r .key) wrote (passed .1) in
-          let loads : Loads p (publicKey p private) (take size out) device store put = rw (key .1) at loaded in
+          let loads : Loads p table (publicKey p private) (take size out) country class store (r .load) store′ =
+          rw (key .1) at loaded in
           let both =
-          made-loads p sound private master salt profile old out 0 size device store put
-          sealed country class newer room loads in
+          made-loads p table sound private master salt profile old out 0 size country class store (r .load) store′
+          sealed two same letter whole newer room loads in
           (key .0, both .0, both .1);
     }

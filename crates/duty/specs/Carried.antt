@@ -10,14 +10,12 @@ use lib.ListN.{length, replicate, take}
 use Rattle.outcome.specs.Result.{done}
 use Rattle.parameters.specs.declared.Params.{Params}
 use Rattle.profile.specs.declared.Profile.{Profile}
-use Rattle.profile.specs.Rules.{classes}
+use Rattle.profile.specs.Rules.{Class}
 use Rattle.scheme.specs.Key.{keySize}
 use Rattle.scheme.specs.Duty.{OpensKey, Excuses, committed, responded}
 use Rattle.scheme.specs.Entries.{MakesKey, Signs, Verifies, VerifiesRound}
-use Rattle.store.specs.declared.Device.{Device}
-use Rattle.store.specs.declared.Store.{Store}
-use Rattle.store.specs.Keys.{keyOf}
-use Rattle.store.specs.Stored.{capacity, stored, find, isStored}
+use Rattle.store.specs.Keys.{keyOf, deviceOf}
+use Rattle.store.specs.Stored.{capacity, storeSize, stored, find, isStored}
 use Rattle.store.specs.Calls.{lookupIn, newer}
 use Rattle.package.specs.Entries.{MakesPackage, Loads}
 use Rattle.duty.specs.declared.Signed.{Signed}
@@ -55,19 +53,20 @@ module _ (p : Params) where
         ⊎ (Excuses p (responded p salt i β 0 r0) (responded p salt i β 1 r1)
         ⊎ Excuses p (responded p salt i β′ 0 r0′) (responded p salt i β′ 1 r1′))))
 
-  -- A key is made, a package is made of a profile into what was lent, and what was made is loaded for the device under
-  -- that key: each answer is its entry's on these very arguments.
-  pub record MakesAndLoads (private master salt : List ℕ) (profile : Profile) (device : Device) (store : Store)
-      (old : List ℕ) (r : Loaded) (out : List ℕ) : Type 0 where
+  -- A key is made, a package is made of a profile into what was lent, and what was made is loaded into a store under that
+  -- key, for a device that is set to a country and class: each answer is its entry's on these very arguments.
+  pub record MakesAndLoads (table : List Class) (private master salt : List ℕ) (profile : Profile) (country : List ℕ)
+      (class : ℕ) (store old : List ℕ) (r : Loaded) (store′ out : List ℕ) : Type 0 where
     pub public : List ℕ
     pub key-answer : MakesKeyAnew private (r .key) public
     -- so many bytes were made (none after a refusal), and they were loaded
     pub size : ℕ
-    pub make-answer : MakesPackage p private master salt profile old 0 (r .make) out size
-    pub load-answer : Loads p public (take size out) device store (record { answer = r .load; store = r .store })
+    pub make-answer : MakesPackage p table private master salt profile old 0 (r .make) out size
+    pub load-answer : Loads p table public (take size out) country class store (r .load) store′
     -- where making answers 0 for a profile of the device's own country and class that is newer than the one stored, if
     -- any, and its pair is stored or there is room: the key was made, loading answers 0, the lookup gives the profile
-    pub loads : r .make ≡ 0 → device .country ≡ profile .country → device .class ≡ profile .class
+    pub loads : r .make ≡ 0 → length country ≡ 2 → deviceOf country class .country ≡ profile .country
+        → class ≡ profile .class → length store ≡ storeSize
         → newer profile (find (keyOf profile) (stored store)) ≡ true
         → (isStored (keyOf profile) (stored store) || ltb (length (stored store)) capacity) ≡ true
-        → (r .key ≡ 0) × (r .load ≡ 0) × (lookupIn classes device (stored (r .store)) ≡ done profile)
+        → (r .key ≡ 0) × (r .load ≡ 0) × (lookupIn table (deviceOf country class) (stored store′) ≡ done profile)

@@ -2,8 +2,6 @@
 // what is signed verifies and that four replies open the key (duty 3), and that a made package loads.
 pub mod category1;
 
-use store::Store;
-
 // What making the key, signing and verifying answered.
 pub struct Signed {
     pub key: u8,
@@ -19,10 +17,9 @@ pub struct Examined {
     pub d: u8,
 }
 
-// What making the key, making the package and loading it answered, and the store after.
+// What making the key, making the package and loading it answered.
 pub struct Loaded {
     pub key: u8,
     pub make: u8,
     pub load: u8,
-    pub store: Store,
 }

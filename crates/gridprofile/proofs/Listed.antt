@@ -8,24 +8,25 @@ use lib.Dec.{eqb}
 use lib.ListN.{length, drop}
 use Rattle.outcome.specs.Answer.{bad-size, pick}
 use Rattle.outcome.specs.Result.{done, refused, answer}
+use Rattle.profile.specs.Rules.{Class}
 use Rattle.preview.specs.declared.Previewed.{Previewed}
 use Rattle.preview.specs.declared.Previewed.the-variants.{Length, BadSize}
 use Rattle.preview.specs.Preview.{Previews, previewAnswer, lentSize}
 use Rattle.gridprofile.specs.Listing.{PreviewsTo}
 
-module _ {input old lent : List ℕ} {r : Previewed} (previews : Previews input old r lent) where
+module _ {table : List Class} {input old lent : List ℕ} {r : Previewed} (previews : Previews table input old r lent) where
   -- the test of the size decides the answer
   decided : (right : Bool) → eqb (length old) lentSize ≡ right
       → previewAnswer r ≡ pick right (done (length (previews .text))) (refused bad-size)
   decided right e = previews .answered ∙ rw e
 
-  pub listed : {n : ℕ} (before : ℕ) → r ≡ Length n → PreviewsTo input old before 0 lent n
+  pub listed : {n : ℕ} (before : ℕ) → r ≡ Length n → PreviewsTo table input old before 0 lent n
   listed {n} before is = go (eqb (length old) lentSize) refl
     where
       whole : lent ≡ previews .text ++ drop (length (previews .text)) old
       whole = previews .content ∙ rw is
 
-      go : (right : Bool) → eqb (length old) lentSize ≡ right → PreviewsTo input old before 0 lent n
+      go : (right : Bool) → eqb (length old) lentSize ≡ right → PreviewsTo table input old before 0 lent n
       go true e =
           let length-is : done n ≡ done (length (previews .text)) = sym (ap previewAnswer is) ∙ decided true e in
           record {
@@ -39,13 +40,13 @@ module _ {input old lent : List ℕ} {r : Previewed} (previews : Previews input 
           let z : _≡_ {A = ℕ} 0 1 = cc in
           absurd (omega arith)
 
-  pub unlisted : (before : ℕ) → r ≡ BadSize → PreviewsTo input old before 1 lent before
+  pub unlisted : (before : ℕ) → r ≡ BadSize → PreviewsTo table input old before 1 lent before
   unlisted before is = go (eqb (length old) lentSize) refl
     where
       kept : lent ≡ old
       kept = previews .content ∙ rw is
 
-      go : (right : Bool) → eqb (length old) lentSize ≡ right → PreviewsTo input old before 1 lent before
+      go : (right : Bool) → eqb (length old) lentSize ≡ right → PreviewsTo table input old before 1 lent before
       go true e =
           let never : refused bad-size ≡ done (length (previews .text)) = sym (ap previewAnswer is) ∙ decided true e in
           let z : _≡_ {A = ℕ} 0 1 = cc in

@@ -3,12 +3,10 @@
 use parameters::CATEGORY1 as P;
 ghost use Rattle.parameters.specs.Categories.{category1 as p};
 use profile::Profile;
-use store::Device;
-use store::PutAnswer;
-use store::Store;
 ghost use Rattle.scheme.specs.Entries.{SamplesMatrix, SamplesExponents, SamplesMaskValues, SamplesFirstChallenges};
 ghost use Rattle.scheme.specs.Entries.{SamplesSecondChallenge, MakesKey, Signs, Verifies, VerifiesRound};
-ghost use Rattle.package.specs.Entries.{MakesPackage, MakesFromLine, Loads, LoadsImage};
+ghost use Rattle.profile.specs.Rules.{classes};
+ghost use Rattle.package.specs.Entries.{MakesPackage, MakesFromLine, Loads};
 
 // Lent scratch: V with the rest of its last group, the seeds of all rounds, what is kept of them.
 const DRAWN_MATRIX: usize = (P.n - P.k) * P.k + 8;
@@ -159,7 +157,7 @@ pub extern "C" fn gridprofile_make_package(
     length: &mut usize,
 ) -> u8
     ensures { λ r.
-        ⌜ MakesFromLine p (now (private .entry)) (now (master .entry)) (now (salt .entry)) (now (line .entry))
+        ⌜ MakesFromLine p classes (now (private .entry)) (now (master .entry)) (now (salt .entry)) (now (line .entry))
         (now (out .entry)) (now (length .entry)) r (now (out .exit)) (now (length .exit)) ⌝ }
 {
     let mut block = [0u8; P.matrix];
@@ -181,7 +179,7 @@ pub extern "C" fn gridprofile_make_package(
     )
 }
 
-// Stores the profile of a package, for a device, in the store that an image means, where its signature holds.
+// Stores the profile of a package for a device, where its signature holds.
 #[no_mangle]
 pub extern "C" fn gridprofile_load(
     store: &mut [u8],
@@ -191,15 +189,15 @@ pub extern "C" fn gridprofile_load(
     class: u32,
 ) -> u8
     ensures { λ r.
-        ⌜ LoadsImage p (now (key .entry)) (now (sealed .entry)) (now (country .entry)) class (now (store .entry)) r
-        (now (store .exit)) ⌝ }
+        ⌜ Loads p classes (now (key .entry)) (now (sealed .entry)) (now (country .entry)) class
+        (now (store .entry)) r (now (store .exit)) ⌝ }
 {
     let mut block = [0u8; P.matrix];
     let mut vs = [0u8; DRAWN_MATRIX];
-    package::load::load_image(P, store, key, sealed, country, class, &mut block, &mut vs)
+    package::load::load(P, store, key, sealed, country, class, &mut block, &mut vs)
 }
 
-// The same two over a profile and a store, which C does not see.
+// The package of a profile, and its length, for callers that hold one; C does not see it.
 pub fn make_package(
     private: &[u8],
     master: &[u8],
@@ -209,7 +207,7 @@ pub fn make_package(
     length: &mut usize,
 ) -> u8
     ensures { λ r.
-        ⌜ MakesPackage p (now (private .entry)) (now (master .entry)) (now (salt .entry)) profile
+        ⌜ MakesPackage p classes (now (private .entry)) (now (master .entry)) (now (salt .entry)) profile
         (now (out .entry)) (now (length .entry)) r (now (out .exit)) (now (length .exit)) ⌝ }
 {
     let mut block = [0u8; P.matrix];
@@ -229,12 +227,4 @@ pub fn make_package(
         out,
         length,
     )
-}
-
-pub fn load(store: Store, key: &[u8], sealed: &[u8], device: Device) -> PutAnswer
-    ensures { λ r. ⌜ Loads p (now (key .entry)) (now (sealed .entry)) device store r ⌝ }
-{
-    let mut block = [0u8; P.matrix];
-    let mut vs = [0u8; DRAWN_MATRIX];
-    package::load::load(P, store, key, sealed, device, &mut block, &mut vs)
 }

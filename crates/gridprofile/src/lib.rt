@@ -8,7 +8,9 @@ ghost use lib.ListN.{length};
 ghost use Rattle.outcome.specs.Answer.{Answers};
 ghost use Rattle.shake.specs.Shake.{shake128};
 ghost use Rattle.packing.specs.Packing.{pack, unpack, packChecks, unpackChecks};
-ghost use Rattle.image.specs.Entries.{ReadsImage, WritesImage, LooksUp};
+ghost use Rattle.profile.specs.Rules.{classes};
+ghost use Rattle.image.specs.Entries.{ReadsImage, WritesImage};
+ghost use Rattle.store.specs.Calls.{LooksUp};
 ghost use Rattle.gridprofile.specs.Listing.{PreviewsTo};
 
 #[no_mangle]
@@ -57,7 +59,7 @@ pub extern "C" fn gridprofile_unpack_exponents(packed: &[u8], exponents: &mut [u
 
 #[no_mangle]
 pub extern "C" fn gridprofile_read_line(line: &[u8], profile: &mut [u8]) -> u8
-    ensures { λ r. ⌜ ReadsImage (now (line .entry)) (now (profile .entry)) r (now (profile .exit)) ⌝ }
+    ensures { λ r. ⌜ ReadsImage classes (now (line .entry)) (now (profile .entry)) r (now (profile .exit)) ⌝ }
 {
     image::read_line_image(line, profile)
 }
@@ -65,7 +67,7 @@ pub extern "C" fn gridprofile_read_line(line: &[u8], profile: &mut [u8]) -> u8
 #[no_mangle]
 pub extern "C" fn gridprofile_write_line(profile: &[u8], out: &mut [u8], length: &mut usize) -> u8
     ensures { λ r.
-        ⌜ WritesImage (now (profile .entry)) (now (out .entry)) (now (length .entry)) r
+        ⌜ WritesImage classes (now (profile .entry)) (now (out .entry)) (now (length .entry)) r
         (now (out .exit)) (now (length .exit)) ⌝ }
 {
     image::write_line_image(profile, out, length)
@@ -74,7 +76,7 @@ pub extern "C" fn gridprofile_write_line(profile: &[u8], out: &mut [u8], length:
 #[no_mangle]
 pub extern "C" fn gridprofile_preview(input: &[u8], out: &mut [u8], length: &mut usize) -> u8
     ensures { λ r.
-        ⌜ PreviewsTo (now (input .entry)) (now (out .entry)) (now (length .entry)) r
+        ⌜ PreviewsTo classes (now (input .entry)) (now (out .entry)) (now (length .entry)) r
         (now (out .exit)) (now (length .exit)) ⌝ }
 {
     match preview::preview(input, out) {
@@ -95,8 +97,8 @@ pub extern "C" fn gridprofile_lookup(
     length: &mut usize,
 ) -> u8
     ensures { λ r.
-        ⌜ LooksUp (now (store .entry)) (now (country .entry)) class (now (out .entry)) (now (length .entry)) r
+        ⌜ LooksUp classes (now (store .entry)) (now (country .entry)) class (now (out .entry)) (now (length .entry)) r
         (now (out .exit)) (now (length .exit)) ⌝ }
 {
-    image::lookup_image(store, country, class, out, length)
+    store::lookup(store, country, class, out, length)
 }

@@ -7,10 +7,11 @@ use Rattle.duty.proofs.category1.make_and_load.Tie as tie
 
 returns : tie.Need-returns
 returns c =
-    let made = c .before .before .before .before .before .before in
+    let loaded = c .before .before in
+    let made = loaded .before .before .before .before .before .before in
     let keyed = made .before .before .before .before in
     makes-and-loads sound-1 (keyed .gridprofile-make-key .ensures) (made .make-package .ensures)
-    (c .before .load .ensures)
+    (loaded .gridprofile-load .ensures)
 
 pub make-and-load-spec : {M : Type 1} → statement M
 make-and-load-spec =
@@ -20,8 +21,9 @@ make-and-load-spec =
     (λ c κs. search needs)
     (λ c κs. search needs)
     (λ c. search needs)
-    (λ c. made-within (c .before .before .before .make-package .ensures))
-    (λ c. made-length (c .before .before .before .before .make-package .ensures))
+    (λ c. made-within (c .before .before .before .before .make-package .ensures))
+    (λ c. made-length (c .before .before .before .before .before .make-package .ensures))
     (λ c κs. search needs)
+    (λ c. search needs)
     (λ c. search needs)
     returns)
