@@ -15,8 +15,8 @@ use Rattle.scheme.proofs.Keyed.{keyed}
 use Rattle.scheme.proofs.Accepted.{accepted}
 use Rattle.scheme.proofs.Opens.{opens}
 use Rattle.duty.specs.declared.Signed.{Signed}
-use Rattle.duty.specs.declared.Examined.{Examined}
-use Rattle.duty.specs.Carried.{MakesKeyAnew, SignsAndVerifies, ExaminesFour}
+use Rattle.duty.specs.declared.FourRounds.{FourRounds}
+use Rattle.duty.specs.Carried.{MakesKeyAnew, SignsAndVerifies, VerifiesFourRounds}
 
 -- where the tests of signing pass, the key was made
 pub key-made : (p : Params) (private master salt msg : List ℕ) (lent r : ℕ) {public : List ℕ}
@@ -44,12 +44,12 @@ signs-and-verifies {p} sound {private} {master} {salt} {msg} {old} {r} {public} 
           (key .0, verified ∙ rw (key .1, written) (accepted p sound private master salt msg (length old) passed));
     }
 
-pub examines-four : {p : Params} {key salt : List ℕ} {i : ℕ} {c0 c1 : List ℕ} {β β′ : ℕ} {h h′ r0 r1 r0′ r1′ : List ℕ}
-    {r : Examined}
+pub verifies-four-rounds : {p : Params} {key salt : List ℕ} {i : ℕ} {c0 c1 : List ℕ} {β β′ : ℕ} {h h′ r0 r1 r0′ r1′ : List ℕ}
+    {r : FourRounds}
     → VerifiesRound p key salt i c0 c1 β h 0 r0 (r .a) → VerifiesRound p key salt i c0 c1 β h 1 r1 (r .b)
     → VerifiesRound p key salt i c0 c1 β′ h′ 0 r0′ (r .c) → VerifiesRound p key salt i c0 c1 β′ h′ 1 r1′ (r .d)
-    → ExaminesFour p key salt i c0 c1 β β′ h h′ r0 r1 r0′ r1′ r
-examines-four {p} a b c d =
+    → VerifiesFourRounds p key salt i c0 c1 β β′ h h′ r0 r1 r0′ r1′ r
+verifies-four-rounds {p} a b c d =
     record {
       first-0 = a;
       first-1 = b;

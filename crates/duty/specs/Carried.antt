@@ -19,7 +19,7 @@ use Rattle.store.specs.Stored.{capacity, storeSize, stored, find, isStored}
 use Rattle.store.specs.Calls.{lookupIn, newer}
 use Rattle.package.specs.Entries.{MakesPackage, Loads}
 use Rattle.duty.specs.declared.Signed.{Signed}
-use Rattle.duty.specs.declared.Examined.{Examined}
+use Rattle.duty.specs.declared.FourRounds.{FourRounds}
 use Rattle.duty.specs.declared.Loaded.{Loaded}
 
 module _ (p : Params) where
@@ -39,8 +39,8 @@ module _ (p : Params) where
   -- Four replies to one commitment pair are examined, one to each second challenge under each of two first challenges:
   -- each number is the examiner's on these very arguments; and where the first challenges differ and all four are 0,
   -- the replies open the key, or one of the four pairs of strings excuses.
-  pub record ExaminesFour (key salt : List ℕ) (i : ℕ) (c0 c1 : List ℕ) (β β′ : ℕ) (h h′ r0 r1 r0′ r1′ : List ℕ)
-      (r : Examined) : Type 0 where
+  pub record VerifiesFourRounds (key salt : List ℕ) (i : ℕ) (c0 c1 : List ℕ) (β β′ : ℕ) (h h′ r0 r1 r0′ r1′ : List ℕ)
+      (r : FourRounds) : Type 0 where
     pub first-0 : VerifiesRound p key salt i c0 c1 β h 0 r0 (r .a)
     pub first-1 : VerifiesRound p key salt i c0 c1 β h 1 r1 (r .b)
     pub second-0 : VerifiesRound p key salt i c0 c1 β′ h′ 0 r0′ (r .c)

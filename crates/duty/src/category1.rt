@@ -7,12 +7,12 @@ use gridprofile::category1::gridprofile_verify_round as verify_round;
 use gridprofile::category1::make_package;
 use parameters::CATEGORY1 as P;
 ghost use Rattle.parameters.specs.Categories.{category1 as p};
-use crate::Examined;
+use crate::FourRounds;
 use crate::Loaded;
 use crate::Signed;
 use profile::Profile;
 ghost use Rattle.profile.specs.Rules.{classes};
-ghost use Rattle.duty.specs.Carried.{SignsAndVerifies, ExaminesFour, MakesAndLoads};
+ghost use Rattle.duty.specs.Carried.{SignsAndVerifies, VerifiesFourRounds, MakesAndLoads};
 
 // Bytes of a public key.
 const KEY: usize = P.digest + (7 * (P.n - P.k) + 7) / 8;
@@ -41,7 +41,7 @@ pub fn sign_and_verify(
 }
 
 // Second half: four replies to one commitment pair that all pass open the key, or a pair of strings excuses.
-pub fn examine_four(
+pub fn verify_four_rounds(
     key: &[u8],
     salt: &[u8],
     i: u32,
@@ -55,9 +55,9 @@ pub fn examine_four(
     r1: &[u8],
     s0: &[u8],
     s1: &[u8],
-) -> Examined
+) -> FourRounds
     ensures { λ r.
-        ⌜ ExaminesFour p (now (key .entry)) (now (salt .entry)) i (now (c0 .entry)) (now (c1 .entry)) beta other
+        ⌜ VerifiesFourRounds p (now (key .entry)) (now (salt .entry)) i (now (c0 .entry)) (now (c1 .entry)) beta other
         (now (h .entry)) (now («h_other» .entry)) (now (r0 .entry)) (now (r1 .entry))
         (now (s0 .entry)) (now (s1 .entry)) r ⌝ }
 {
@@ -65,7 +65,7 @@ pub fn examine_four(
     let b = verify_round(key, salt, i, c0, c1, beta, h, 1, r1);
     let c = verify_round(key, salt, i, c0, c1, other, h_other, 0, s0);
     let d = verify_round(key, salt, i, c0, c1, other, h_other, 1, s1);
-    Examined {
+    FourRounds {
         a: a,
         b: b,
         c: c,

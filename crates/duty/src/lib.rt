@@ -10,7 +10,7 @@ pub struct Signed {
 }
 
 // What the round examiner answered for the replies to 0 and 1 under one first challenge, then under the other.
-pub struct Examined {
+pub struct FourRounds {
     pub a: u8,
     pub b: u8,
     pub c: u8,

@@ -9,8 +9,8 @@ use lib.Seq.{take-all}
 use Rattle.shake.specs.Shake.{shake}
 use Rattle.sampling.specs.declared.draw.Draw.{Draw}
 use Rattle.sampling.specs.Shuffle.{shuffle, shuffles}
-use Rattle.sampling.specs.Scratch.{Shuffled}
-use Rattle.expand.specs.Expanded.{Expanded, ExpandedFrom}
+use Rattle.sampling.specs.InnerScratch.{Shuffled}
+use Rattle.expand.specs.InnerExpanded.{Expanded, ExpandedFrom}
 
 module _ {ok : Bool} {scratch : List ℕ} where
   -- the code's draw and block are those of the scheme

@@ -1,3 +1,3 @@
-pub mod Expanded
-pub mod Scratch
-pub mod Numbers
+pub mod InnerExpanded
+pub mod InnerScratch
+pub mod InnerNumbers

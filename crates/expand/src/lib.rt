@@ -5,23 +5,24 @@ pub mod numbers;
 
 use parameters::Params;
 use sampling::draw::Draw;
+use scheme::tag;
 ghost use mathlib.Core.Path.{_≡_};
 ghost use Prim.Native.Nat.{_+_, _≤_};
 ghost use lib.Dec.{T};
 ghost use lib.ListN.{length};
 ghost use mathlib.Core.List.{_∷_, _++_};
 ghost use Rattle.parameters.specs.Sound.{Sound};
-ghost use Rattle.shake.specs.Fold.{Rate};
+ghost use Rattle.shake.specs.InnerFold.{Rate};
 ghost use Rattle.shake.specs.Shake.{shake};
 ghost use Rattle.packing.specs.Packing.{allBelow, pack, size, digits};
 ghost use Rattle.sampling.specs.Sampling.{enough, yield};
-ghost use Rattle.sampling.specs.Scratch.{Room};
-ghost use Rattle.scheme.specs.Strings.{string10, string10-round};
+ghost use Rattle.sampling.specs.InnerScratch.{Room};
+ghost use Rattle.scheme.specs.Strings.{keyExponentsString, maskExponentsString};
 ghost use Rattle.scheme.specs.Key.{matrix as matrixOf, matrixDrawn, matrixCount, exponentsFrom, exponentsDrawn};
 ghost use Rattle.scheme.specs.Round.{maskExponents, maskValues, maskBlock};
 ghost use Rattle.scheme.specs.Sign.{firstChallenges, firstDrawn, secondChallenges, secondDrawn};
-ghost use Rattle.expand.specs.Expanded.{Expanded, ExpandedFrom};
-ghost use Rattle.expand.specs.Scratch.{Scratch};
+ghost use Rattle.expand.specs.InnerExpanded.{Expanded, ExpandedFrom};
+ghost use Rattle.expand.specs.InnerScratch.{Scratch};
 
 // The round i in two bytes, low byte first.
 pub fn round_number(i: usize) -> [u8; 2]
@@ -60,7 +61,7 @@ pub fn matrix(p: Params, public: &[u8], block: &mut [u8], vs: &mut [u8]) -> bool
         ⌜ Expanded (matrixDrawn p (now (public .entry))) (matrixCount p) (matrixOf p (now (public .entry))) r
         (now (vs .exit)) ⌝ }
 {
-    hashing::hash1(p.rate, 13, public, block);
+    hashing::hash1(p.rate, tag::MATRIX, public, block);
     sampled(numbers::matrix(p), block, vs)
 }
 
@@ -68,12 +69,12 @@ pub fn matrix(p: Params, public: &[u8], block: &mut [u8], vs: &mut [u8]) -> bool
 pub fn key_exponents(p: Params, secret: &[u8], es: &mut [u8]) -> bool
     requires { ⌜ Sound p × (p .n + 8 ≤ length (now es)) ⌝ }
     ensures { λ r.
-        ⌜ Expanded (exponentsDrawn p (string10 (now (secret .entry)))) (p .n)
-        (exponentsFrom p (string10 (now (secret .entry)))) r (now (es .exit)) ⌝ }
+        ⌜ Expanded (exponentsDrawn p (keyExponentsString (now (secret .entry)))) (p .n)
+        (exponentsFrom p (keyExponentsString (now (secret .entry)))) r (now (es .exit)) ⌝ }
 {
     let bytes = p.exponents;
-    let mut block = [0u8; parameters::BLOCK];
-    hashing::hash1(p.rate, 10, secret, &mut block[..bytes]);
+    let mut block = [0u8; parameters::EXPONENTS_BLOCK];
+    hashing::hash1(p.rate, tag::EXPONENTS, secret, &mut block[..bytes]);
     sampled(numbers::exponents(p), &block[..bytes], es)
 }
 
@@ -81,11 +82,19 @@ pub fn key_exponents(p: Params, secret: &[u8], es: &mut [u8]) -> bool
 pub fn mask_exponents(p: Params, seed: &[u8], salt: &[u8], i: usize, es: &mut [u8]) -> bool
     requires { ⌜ Sound p × (p .n + 8 ≤ length (now es)) ⌝ }
     ensures { λ r.
-        ⌜ Expanded (exponentsDrawn p (string10-round (now (seed .entry)) (now (salt .entry)) i)) (p .n)
+        ⌜ Expanded (exponentsDrawn p (maskExponentsString (now (seed .entry)) (now (salt .entry)) i)) (p .n)
         (maskExponents p (now (seed .entry)) (now (salt .entry)) i) r (now (es .exit)) ⌝ }
 {
     let number = round_number(i);
-    sampled3(numbers::exponents(p), p.rate, 10, seed, salt, &number, es)
+    sampled3(
+        numbers::exponents(p),
+        p.rate,
+        tag::EXPONENTS,
+        seed,
+        salt,
+        &number,
+        es,
+    )
 }
 
 // u' of round i.
@@ -96,7 +105,15 @@ pub fn mask_values(p: Params, seed: &[u8], salt: &[u8], i: usize, us: &mut [u8])
         (p .n) (maskValues p (now (seed .entry)) (now (salt .entry)) i) r (now (us .exit)) ⌝ }
 {
     let number = round_number(i);
-    sampled3(numbers::mask_values(p), p.rate, 11, seed, salt, &number, us)
+    sampled3(
+        numbers::mask_values(p),
+        p.rate,
+        tag::MASK_VALUES,
+        seed,
+        salt,
+        &number,
+        us,
+    )
 }
 
 // The first challenges.
@@ -106,7 +123,15 @@ pub fn first_challenges(p: Params, c: &[u8], salt: &[u8], msg: &[u8], bs: &mut [
         ⌜ Expanded (firstDrawn p (now (c .entry)) (now (salt .entry)) (now (msg .entry))) (p .t)
         (firstChallenges p (now (c .entry)) (now (salt .entry)) (now (msg .entry))) r (now (bs .exit)) ⌝ }
 {
-    sampled3(numbers::first_challenges(p), p.rate, 7, c, salt, msg, bs)
+    sampled3(
+        numbers::first_challenges(p),
+        p.rate,
+        tag::FIRST_CHALLENGES,
+        c,
+        salt,
+        msg,
+        bs,
+    )
 }
 
 // Values in range, packed where there is room for just them.
@@ -150,7 +175,7 @@ pub fn second_challenges(
     let mut block = [0u8; parameters::SECOND_BLOCK];
     hashing::hash5(
         p.rate,
-        8,
+        tag::SECOND_CHALLENGE,
         c,
         &packed[..size],
         h,

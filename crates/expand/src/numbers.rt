@@ -3,7 +3,7 @@ use parameters::Params;
 use sampling::draw::Draw;
 ghost use mathlib.Core.Path.{_≡_};
 ghost use Rattle.parameters.specs.Sound.{Sound};
-ghost use Rattle.expand.specs.Numbers.{matrixDraw, exponentsDraw, maskDraw, firstDraw};
+ghost use Rattle.expand.specs.InnerNumbers.{matrixDraw, exponentsDraw, maskDraw, firstDraw};
 
 // V: n - k rows of k values.
 pub fn matrix(p: Params) -> Draw

@@ -130,7 +130,7 @@ pub extern "C" fn gridprofile_verify_round(
 {
     let mut block = [0u8; P.matrix];
     let mut vs = [0u8; DRAWN_MATRIX];
-    verifier::examine::examine(
+    verifier::verify_round::verify_round(
         P,
         key,
         salt,

@@ -2,6 +2,7 @@
 // category decide stands in the category's module; the rest is here, with the contract of the function that it calls.
 pub mod category1;
 
+use outcome::BAD_SIZE;
 use preview::Previewed;
 ghost use mathlib.Core.Path.{_≡_};
 ghost use lib.ListN.{length};
@@ -84,7 +85,7 @@ pub extern "C" fn gridprofile_preview(input: &[u8], out: &mut [u8], length: &mut
             *length = n;
             0
         }
-        Previewed::BadSize => 1,
+        Previewed::BadSize => BAD_SIZE,
     }
 }
 

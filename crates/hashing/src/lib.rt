@@ -4,7 +4,7 @@ use shake::Sponge;
 ghost use mathlib.Core.Path.{_≡_};
 ghost use mathlib.Core.List.{[], _∷_, _++_};
 ghost use lib.ListN.{length};
-ghost use Rattle.shake.specs.Fold.{Rate, Holds};
+ghost use Rattle.shake.specs.InnerFold.{Rate, Holds};
 ghost use Rattle.shake.specs.Shake.{shake};
 
 // A sponge that holds the tag alone.

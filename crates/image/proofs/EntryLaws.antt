@@ -16,7 +16,7 @@ use Rattle.profile.specs.Rules.{Class}
 use Rattle.profile.specs.Line.{lineOf, readLine, writeChecks, writeLine, writeAnswer, Writes}
 use Rattle.profile.proofs.RuleLaws.{done-passed}
 use Rattle.image.specs.Image.{profileSize, profileOf, imageOf}
-use Rattle.image.specs.Entries.{imageIn, ReadsImage, PutsLine, writeImageChecks, WritesImage}
+use Rattle.image.specs.Entries.{imageIn, ReadsImage, WritesProfileLine, writeImageChecks, WritesImage}
 
 -- the number of what a list of checks answers
 pub number-answer : {A : Type 0} (cs : List Check) (a : A) → numberIn (answer cs a) ≡ firstRefusal cs
@@ -58,19 +58,19 @@ module _ (table : List Class) (p : Profile) (old : List ℕ) (before : ℕ) wher
             (w .content);
       }
 
-  pub put-line-done : {n : ℕ} {new : List ℕ} → Writes table p old (Written n) new → PutsLine table p old before 0 new n
+  pub write-profile-line-done : {n : ℕ} {new : List ℕ} → Writes table p old (Written n) new → WritesProfileLine table p old before 0 new n
   unfolding writeLine
-  put-line-done {n} {new} w =
+  write-profile-line-done {n} {new} w =
       record {
         answers = put-answers (Written n) new w;
         size = sym (done-passed (writeChecks table p old) (length (lineOf p)) n (sym (w .answered)) .1);
       }
 
-  pub put-line-size : {new : List ℕ} → Writes table p old BadSize new → PutsLine table p old before 1 new before
-  put-line-size {new} w = record { answers = put-answers BadSize new w; size = refl }
+  pub write-profile-line-size : {new : List ℕ} → Writes table p old BadSize new → WritesProfileLine table p old before 1 new before
+  write-profile-line-size {new} w = record { answers = put-answers BadSize new w; size = refl }
 
-  pub put-line-broken : {new : List ℕ} → Writes table p old BadProfile new → PutsLine table p old before 5 new before
-  put-line-broken {new} w = record { answers = put-answers BadProfile new w; size = refl }
+  pub write-profile-line-broken : {new : List ℕ} → Writes table p old BadProfile new → WritesProfileLine table p old before 5 new before
+  write-profile-line-broken {new} w = record { answers = put-answers BadProfile new w; size = refl }
 
 -- the same answer under other checks that refuse alike
 pub answers-as : {cs ds : List Check} {made old lent : List ℕ} {k : ℕ} → firstRefusal cs ≡ firstRefusal ds
@@ -83,10 +83,10 @@ module _ (table : List Class) (image old : List ℕ) (before : ℕ) where
       record { answers = one-refused 0 (rw (ne-eqb (length image) profileSize other)) refl; size = refl }
 
   pub write-image-line : (p : Profile) {k after : ℕ} {new : List ℕ} → length image ≡ profileSize → p ≡ profileOf image
-      → PutsLine table p old before k new after → WritesImage table image old before k new after
+      → WritesProfileLine table p old before k new after → WritesImage table image old before k new after
   write-image-line p {k} {after} {new} size meant puts =
-      let here : PutsLine table (profileOf image) old before k new after =
-      subst (λ (q : Profile). PutsLine table q old before k new after) meant puts in
+      let here : WritesProfileLine table (profileOf image) old before k new after =
+      subst (λ (q : Profile). WritesProfileLine table q old before k new after) meant puts in
       let checks : List Check = writeChecks table (profileOf image) old in
       let same : firstRefusal checks ≡ firstRefusal (writeImageChecks table image old) =
       rw (eq-eqb (length image) profileSize size) in

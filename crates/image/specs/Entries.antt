@@ -29,8 +29,8 @@ pub record ReadsImage (table : List Class) (line old : List ℕ) (answer : ℕ) 
 -- ---- writing a line
 
 -- the line of a profile
-abbrev pub PutsLine : List Class → Profile → List ℕ → ℕ → ℕ → List ℕ → ℕ → Type 0
-PutsLine table p old = AnswersFront (writeChecks table p old) (lineOf p) old
+abbrev pub WritesProfileLine : List Class → Profile → List ℕ → ℕ → ℕ → List ℕ → ℕ → Type 0
+WritesProfileLine table p old = AnswersFront (writeChecks table p old) (lineOf p) old
 
 -- the line of the profile that an image means; its first byte is not looked at
 abbrev pub writeImageChecks : List Class → List ℕ → List ℕ → List Check

@@ -2,6 +2,8 @@
 pub mod read;
 pub mod write;
 
+use outcome::BAD_PROFILE;
+use outcome::BAD_SIZE;
 use profile::Profile;
 use profile::ReadLine;
 use profile::WriteLine;
@@ -10,7 +12,7 @@ use profile::write_line;
 use read::read_profile;
 use write::write_profile;
 ghost use Rattle.profile.specs.Rules.{classes};
-ghost use Rattle.image.specs.Entries.{ReadsImage, PutsLine, WritesImage};
+ghost use Rattle.image.specs.Entries.{ReadsImage, WritesProfileLine, WritesImage};
 
 // The length of the image of a profile.
 pub const PROFILE_SIZE: usize = 64;
@@ -20,30 +22,30 @@ pub fn read_line_image(line: &[u8], profile: &mut [u8]) -> u8
     ensures { λ r. ⌜ ReadsImage classes (now (line .entry)) (now (profile .entry)) r (now (profile .exit)) ⌝ }
 {
     if profile.len() != PROFILE_SIZE {
-        return 1;
+        return BAD_SIZE;
     }
     match read_line(line) {
         ReadLine::Read(p) => {
             write_profile(p, profile);
             0
         }
-        ReadLine::BadSize => 1,
-        ReadLine::BadLine => 5,
+        ReadLine::BadSize => BAD_SIZE,
+        ReadLine::BadLine => BAD_PROFILE,
     }
 }
 
 // Writes the line of a profile, and its length.
-pub fn put_line(p: Profile, out: &mut [u8], length: &mut usize) -> u8
+pub fn write_profile_line(p: Profile, out: &mut [u8], length: &mut usize) -> u8
     ensures { λ r.
-        ⌜ PutsLine classes p (now (out .entry)) (now (length .entry)) r (now (out .exit)) (now (length .exit)) ⌝ }
+        ⌜ WritesProfileLine classes p (now (out .entry)) (now (length .entry)) r (now (out .exit)) (now (length .exit)) ⌝ }
 {
     match write_line(p, out) {
         WriteLine::Written(n) => {
             *length = n;
             0
         }
-        WriteLine::BadSize => 1,
-        WriteLine::BadProfile => 5,
+        WriteLine::BadSize => BAD_SIZE,
+        WriteLine::BadProfile => BAD_PROFILE,
     }
 }
 
@@ -54,7 +56,7 @@ pub fn write_line_image(profile: &[u8], out: &mut [u8], length: &mut usize) -> u
         (now (out .exit)) (now (length .exit)) ⌝ }
 {
     if profile.len() != PROFILE_SIZE {
-        return 1;
+        return BAD_SIZE;
     }
-    put_line(read_profile(profile), out, length)
+    write_profile_line(read_profile(profile), out, length)
 }

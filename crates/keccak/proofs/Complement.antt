@@ -11,7 +11,7 @@ use lib.Dec.{lit≤}
 use lib.ListN.{getD}
 use lib.Pow.{pow-pos, ones-split, shr-lt, shl-shr, split, high, low, mod-pow-add, ones-sub-lt, shr-le}
 use Rattle.keccak.specs.Keccak.{rotl, complement}
-use Rattle.keccak.specs.Planes.{shown, differing, hidden, sided, Parity, Beside}
+use Rattle.keccak.specs.InnerPlanes.{shown, differing, hidden, sided, Parity, Beside}
 use Rattle.keccak.proofs.Tables.{rotations}
 
 -- the complement at k bits

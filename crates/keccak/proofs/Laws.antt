@@ -7,7 +7,7 @@ use native.Mathlib.Omega.{arith}
 use lib.ListN.{length, drop}
 use lib.Seq.{sets, sets-eq, drop-length}
 use Rattle.keccak.specs.Keccak.{complement, lane, state, keccakF, rounds, round, iota, roundConstant, chi, pi, rho, theta, added, beside, parities}
-use Rattle.keccak.specs.Planes.{reveal, Parity, Beside, chiRow, turnedRow, planeOf, xored}
+use Rattle.keccak.specs.InnerPlanes.{reveal, Parity, Beside, chiRow, turnedRow, planeOf, xored}
 
 pub length-keccakF : (s : List ℕ) → length (keccakF s) ≡ 25
 unfolding keccakF rounds round iota chi

@@ -1,2 +1,2 @@
 pub mod Keccak
-pub mod Planes
+pub mod InnerPlanes

@@ -5,7 +5,7 @@ ghost use mathlib.Core.List.{[], _∷_};
 ghost use mathlib.Core.Path.{_≡_};
 ghost use lib.ListN.{length};
 ghost use Rattle.keccak.specs.Keccak.{rotl, complement, offsets, keccakF};
-ghost use Rattle.keccak.specs.Planes.{revealRow, heldPlane, Parity, Beside, Hidden, Round};
+ghost use Rattle.keccak.specs.InnerPlanes.{revealRow, heldPlane, Parity, Beside, Hidden, Round};
 
 // By how many bits ρ turns lane (x, y), at x + 5y.
 const ROTATIONS: [u32; 25] = [

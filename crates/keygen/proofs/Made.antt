@@ -8,7 +8,7 @@ use lib.ListN.{length, take, drop, length-drop}
 use lib.Seq.{take-all, take-at, drop-append-le}
 use lib.Pow.{pow-mono}
 use borrow.Author.Tests.{eq-eqb}
-use Rattle.outcome.specs.Answer.{Check, _unless_, short, firstRefusal}
+use Rattle.outcome.specs.Answer.{Check, _unless_, short-draw, firstRefusal}
 use Rattle.outcome.proofs.Checks.{fails, holds}
 use Rattle.packing.specs.Packing.{pack}
 use Rattle.packing.proofs.Below.{Below, none, more}
@@ -16,7 +16,7 @@ use Rattle.parameters.specs.declared.Params.{Params}
 use Rattle.shake.specs.Shake.{shake}
 use Rattle.sampling.proofs.Kept.{sample-below}
 use Rattle.linear.specs.Linear.{powers, syndrome}
-use Rattle.scheme.specs.Strings.{bytesFrom, string10, string12}
+use Rattle.scheme.specs.Strings.{bytesFrom, keyExponentsString, keySeedsString}
 use Rattle.scheme.specs.Key.{
   keySeeds,
   secretSeed,
@@ -34,18 +34,18 @@ use Rattle.scheme.specs.Key.{
   keyDraws,
   makeKeyChecks,
 }
-use Rattle.expand.specs.Expanded.{Expanded}
-use Rattle.keygen.specs.Material.{Material}
+use Rattle.expand.specs.InnerExpanded.{Expanded}
+use Rattle.keygen.specs.InnerMaterial.{Material}
 
 -- as many bytes as two digests have are both seeds
 pub seeds-made : (p : Params) (private : List ℕ) {n : ℕ} {seeds : List ℕ} → n ≡ 2 * p .digest →
     seeds ≡ shake (p .rate) (12 ∷ private) n → seeds ≡ keySeeds p private
-unfolding keySeeds string12 bytesFrom
+unfolding keySeeds keySeedsString bytesFrom
 seeds-made p private sized made = made ∙ ap (λ (k : ℕ). shake (p .rate) (12 ∷ private) k) sized
 
 -- the last draw of a key
 abbrev exponentsDraw : Params → List ℕ → List Check
-exponentsDraw p private = short unless exponentsDrawn p (string10 (secretSeed p private)) ∷ []
+exponentsDraw p private = short-draw unless exponentsDrawn p (keyExponentsString (secretSeed p private)) ∷ []
 
 module _ (p : Params) (private : List ℕ) {seeds : List ℕ} (held : seeds ≡ keySeeds p private) where
   -- the seeds as they are lent: the secret one in front, the public one behind it up to their end
@@ -67,7 +67,7 @@ module _ (p : Params) (private : List ℕ) {seeds : List ℕ} (held : seeds ≡ 
     matrix-short failed drawn =
         record {
           answer =
-              fails short (matrixDrawn p (publicSeed p private)) (exponentsDraw p private)
+              fails short-draw (matrixDrawn p (publicSeed p private)) (exponentsDraw p private)
               (sym (ap (λ (s : List ℕ). matrixDrawn p s) public-is) ∙ sym (drawn .answer) ∙ failed);
           seeds-held = held;
           matrix-held = λ (e : false ≡ true). absurd (false≢true e);
@@ -78,21 +78,21 @@ module _ (p : Params) (private : List ℕ) {seeds : List ℕ} (held : seeds ≡ 
     pub exponents-drawn : {secret : List ℕ} {got ok : Bool} {vs es : List ℕ} → secret ≡ secretSeed p private → got
         ≡ true →
         Expanded (matrixDrawn p public) (matrixCount p) (matrix p public) got vs →
-        Expanded (exponentsDrawn p (string10 secret)) (p .n) (exponentsFrom p (string10 secret)) ok es →
+        Expanded (exponentsDrawn p (keyExponentsString secret)) (p .n) (exponentsFrom p (keyExponentsString secret)) ok es →
         Material p private ok seeds vs es
     unfolding keyDraws keyExponents
     exponents-drawn {secret} {got} {ok} secret-is there drawn exponents =
         let suffices : matrixDrawn p (publicSeed p private) ≡ true =
         sym (ap (λ (s : List ℕ). matrixDrawn p s) public-is) ∙ sym (drawn .answer) ∙ there
         in
-        let last : exponentsDrawn p (string10 (secretSeed p private)) ≡ ok =
-        sym (ap (λ (s : List ℕ). exponentsDrawn p (string10 s)) secret-is) ∙ sym (exponents .answer)
+        let last : exponentsDrawn p (keyExponentsString (secretSeed p private)) ≡ ok =
+        sym (ap (λ (s : List ℕ). exponentsDrawn p (keyExponentsString s)) secret-is) ∙ sym (exponents .answer)
         in
         record {
-          answer = holds short (matrixDrawn p (publicSeed p private)) (exponentsDraw p private) suffices ∙ rw last;
+          answer = holds short-draw (matrixDrawn p (publicSeed p private)) (exponentsDraw p private) suffices ∙ rw last;
           seeds-held = held;
           matrix-held = λ _. drawn .content there ∙ ap (λ (s : List ℕ). matrix p s) public-is;
-          exponents-held = λ e. exponents .content e ∙ ap (λ (s : List ℕ). exponentsFrom p (string10 s)) secret-is;
+          exponents-held = λ e. exponents .content e ∙ ap (λ (s : List ℕ). exponentsFrom p (keyExponentsString s)) secret-is;
         }
 
   -- the public seed as a part between the secret one and whatever follows

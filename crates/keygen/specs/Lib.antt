@@ -1,1 +1,1 @@
-pub mod Material
+pub mod InnerMaterial

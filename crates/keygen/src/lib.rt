@@ -1,8 +1,11 @@
 // Making keys, over the sizes of a category and lent scratch.
+use outcome::BAD_SIZE;
+use outcome::SHORT_DRAW;
 use parameters::DRAWN_PLACES;
 use parameters::PLACES;
 use parameters::Params;
 use parameters::TWO_DIGESTS;
+use scheme::tag;
 ghost use mathlib.Core.Path.{_≡_};
 ghost use mathlib.Core.List.{_++_};
 ghost use Prim.Native.Nat.{_+_, _*_, _≤_};
@@ -13,8 +16,8 @@ ghost use Rattle.packing.specs.Packing.{allBelow, pack};
 ghost use Rattle.linear.specs.Linear.{syndrome, powers};
 ghost use Rattle.scheme.specs.Key.{matrixCount, keySize};
 ghost use Rattle.scheme.specs.Entries.{MakesKey};
-ghost use Rattle.expand.specs.Scratch.{Scratch};
-ghost use Rattle.keygen.specs.Material.{Material};
+ghost use Rattle.expand.specs.InnerScratch.{Scratch};
+ghost use Rattle.keygen.specs.InnerMaterial.{Material};
 
 // Both seeds, V and the key exponents of a private seed; false where a draw is short.
 pub fn material(
@@ -30,7 +33,7 @@ pub fn material(
     ensures { λ r. ⌜ Material p (now (private .entry)) r (now (seeds .exit)) (now (vs .exit)) (now (es .exit)) ⌝ }
 {
     let d = p.digest;
-    hashing::hash1(p.rate, 12, private, seeds);
+    hashing::hash1(p.rate, tag::KEY_SEEDS, private, seeds);
     if !expand::matrix(p, &seeds[d..], block, vs) {
         return false;
     }
@@ -66,17 +69,17 @@ pub fn make_key(p: Params, private: &[u8], block: &mut [u8], vs: &mut [u8], key:
     let k = p.k;
     let d = p.digest;
     if private.len() != d {
-        return 1;
+        return BAD_SIZE;
     }
     if key.len() != scheme::key_size(p) {
-        return 1;
+        return BAD_SIZE;
     }
     let both = 2 * d;
     let count = (n - k) * k;
     let mut seeds = [0u8; TWO_DIGESTS];
     let mut es = [0u8; DRAWN_PLACES];
     if !material(p, private, &mut seeds[..both], block, vs, &mut es) {
-        return 2;
+        return SHORT_DRAW;
     }
     write_key(p, &seeds[d..both], &vs[..count], &es[..n], key);
     0

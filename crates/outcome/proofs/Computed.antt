@@ -11,11 +11,11 @@ abbrev pub everyBelow : (ℕ → Bool) → ℕ → Bool
 everyBelow f zero = true
 everyBelow f (suc n) = f n && everyBelow f n
 
-both-left : (a b : Bool) → T (a && b) → T a
+pub both-left : (a b : Bool) → T (a && b) → T a
 both-left true b t = tt
 both-left false b t = t
 
-both-right : (a b : Bool) → T (a && b) → T b
+pub both-right : (a b : Bool) → T (a && b) → T b
 both-right true b t = t
 both-right false b t = absurd t
 

@@ -3,3 +3,4 @@ pub mod Computed
 pub mod Filled
 pub mod Lists
 pub mod Numbers
+pub mod Answering

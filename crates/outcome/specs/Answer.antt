@@ -18,17 +18,17 @@ numberOf (refusal k) = suc k
 abbrev pub bad-size : Refusal
 bad-size = refusal 0
 
-abbrev pub short : Refusal
-short = refusal 1
+abbrev pub short-draw : Refusal
+short-draw = refusal 1
 
 abbrev pub bad-field : Refusal
 bad-field = refusal 2
 
-abbrev pub differs : Refusal
-differs = refusal 3
+abbrev pub mismatch : Refusal
+mismatch = refusal 3
 
-abbrev pub bad-line : Refusal
-bad-line = refusal 4
+abbrev pub bad-profile : Refusal
+bad-profile = refusal 4
 
 abbrev pub other-device : Refusal
 other-device = refusal 5
@@ -36,11 +36,11 @@ other-device = refusal 5
 abbrev pub old-serial : Refusal
 old-serial = refusal 6
 
-abbrev pub full : Refusal
-full = refusal 7
+abbrev pub store-full : Refusal
+store-full = refusal 7
 
-abbrev pub nothing-stored : Refusal
-nothing-stored = refusal 8
+abbrev pub not-stored : Refusal
+not-stored = refusal 8
 
 abbrev pub bad-device : Refusal
 bad-device = refusal 9

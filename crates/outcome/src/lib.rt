@@ -1,2 +1,20 @@
-// What every entry answers, and the laws on lists that the layers above share.
-// The definitions stand in specs/, the laws in proofs/; there is no code.
+// Refusals and their numbers, as the definitions in specs/ and the C header have them. An answer of 0 is none.
+pub const BAD_SIZE: u8 = 1;
+
+pub const SHORT_DRAW: u8 = 2;
+
+pub const BAD_FIELD: u8 = 3;
+
+pub const MISMATCH: u8 = 4;
+
+pub const BAD_PROFILE: u8 = 5;
+
+pub const OTHER_DEVICE: u8 = 6;
+
+pub const OLD_SERIAL: u8 = 7;
+
+pub const STORE_FULL: u8 = 8;
+
+pub const NOT_STORED: u8 = 9;
+
+pub const BAD_DEVICE: u8 = 10;

@@ -11,7 +11,7 @@ use Rattle.outcome.specs.Answer.{Check, firstRefusal}
 use Rattle.parameters.specs.declared.Params.{Params}
 use Rattle.profile.specs.declared.Profile.{Profile}
 use Rattle.profile.specs.Rules.{Class}
-use Rattle.verifier.proofs.Answering.{stops, goes-on}
+use Rattle.outcome.proofs.Answering.{stops, goes-on}
 use Rattle.store.specs.declared.Device.{Device}
 use Rattle.store.specs.Keys.{deviceOf, deviceOk}
 use Rattle.store.specs.Stored.{storeSize, stored}

@@ -9,7 +9,7 @@ use lib.ListN.{length, take, drop, length-append, take-append-drop, replicate}
 use lib.Seq.{length-take-le, take-at}
 use borrow.Author.Tests.{eq-eqb, ne-eqb, eqb-true}
 use borrow.Rule.Slice.PartMut.{putMid}
-use Rattle.outcome.specs.Answer.{bad-size, bad-line, Check, _unless_, firstRefusal, pick, Answers, AnswersFront}
+use Rattle.outcome.specs.Answer.{bad-size, bad-profile, Check, _unless_, firstRefusal, pick, Answers, AnswersFront}
 use Rattle.outcome.proofs.Checks.{passed, holds, fails}
 use Rattle.parameters.specs.declared.Params.{Params}
 use Rattle.parameters.specs.Sound.{Sound}
@@ -25,7 +25,7 @@ use Rattle.scheme.specs.Sign.{signatureSize, signChecks, signature}
 use Rattle.scheme.proofs.Accepted.{length-signature}
 use Rattle.keygen.proofs.Parts.{put-next}
 use Rattle.image.proofs.EntryLaws.{number-answer, answers-as}
-use Rattle.package.specs.Package.{packageMax, packageOf, makeSizes, makeChecks, makeLineChecks}
+use Rattle.package.specs.Package.{packageMax, packageOf, makeSizes, makeChecks, makeFromLineChecks}
 use Rattle.package.specs.Entries.{Room, Seals, MakesPackage, MakesFromLine}
 use Rattle.package.proofs.Stages.{by-first, by-second, by-third}
 
@@ -166,7 +166,7 @@ module _ (p : Params) (table : List Class) (private master salt : List ℕ) (pro
   sizes = makeSizes p private master salt (length old)
 
   abbrev rules : List Check
-  rules = bad-line unless valid table profile ∷ []
+  rules = bad-profile unless valid table profile ∷ []
 
   abbrev signing : List Check
   signing = signChecks p private master salt (lineOf profile) (signatureSize p)
@@ -189,7 +189,7 @@ module _ (p : Params) (table : List Class) (private master salt : List ℕ) (pro
     make-broken new written =
         kept (packageOf p private master salt (lineOf profile)) old before 5 (λ z. omega arith)
         (by-second sizes rules signing (sym tested ∙ none) 5 (λ z. omega arith)
-        (sym (fails bad-line (valid table profile) [] (breaks table profile new written))))
+        (sym (fails bad-profile (valid table profile) [] (breaks table profile new written))))
 
     pub make-sealed : (new : List ℕ) (n : ℕ) → Writes table profile blank (Written n) new → {k after : ℕ} {out : List ℕ}
         → Seals p private master salt (take n new) old before k out after
@@ -198,7 +198,7 @@ module _ (p : Params) (table : List Class) (private master salt : List ℕ) (pro
     make-sealed new n written {k} {after} {out} sealed =
         front-as {cs = signing} {ds = sizes ++ rules ++ signing}
         (by-third sizes rules signing (sym tested ∙ none)
-        (holds bad-line (valid table profile) [] (obeyed table profile new n written)))
+        (holds bad-profile (valid table profile) [] (obeyed table profile new n written)))
         (subst (λ (l : List ℕ). Seals p private master salt l old before k out after)
         (written-line table profile new n written) sealed)
 
@@ -216,14 +216,14 @@ module _ (p : Params) (table : List Class) (private master salt line old : List 
 
   pub make-line-sizes : (k : ℕ) → (k ≡ 0 → ⊥) → k ≡ firstRefusal line-sizes
       → MakesFromLine p table private master salt line old before k old before
-  unfolding makeLineChecks
+  unfolding makeFromLineChecks
   make-line-sizes k some e =
       kept (packageOf p private master salt line) old before k some (by-first line-sizes reading line-signing k some e)
 
   module _ (sized : ℕ) (tested : sized ≡ firstRefusal line-sizes) (none : sized ≡ 0) where
     refuses : (k : ℕ) → (k ≡ 0 → ⊥) → k ≡ firstRefusal reading
         → MakesFromLine p table private master salt line old before k old before
-    unfolding makeLineChecks
+    unfolding makeFromLineChecks
     refuses k some e =
         kept (packageOf p private master salt line) old before k some
         (by-second line-sizes reading line-signing (sym tested ∙ none) k some e)
@@ -232,7 +232,7 @@ module _ (p : Params) (table : List Class) (private master salt line old : List 
         → MakesFromLine p table private master salt line old before 1 old before
     make-line-short read = refuses 1 (λ z. omega arith) (rw (← read) refl)
 
-    pub make-line-broken : refused bad-line ≡ readLine table line
+    pub make-line-broken : refused bad-profile ≡ readLine table line
         → MakesFromLine p table private master salt line old before 5 old before
     make-line-broken read = refuses 5 (λ z. omega arith) (rw (← read) refl)
 
@@ -247,7 +247,7 @@ module _ (p : Params) (table : List Class) (private master salt line old : List 
       pub make-line-sealed : {k after : ℕ} {new : List ℕ}
           → Seals p private master salt line old before k new after
           → MakesFromLine p table private master salt line old before k new after
-      unfolding makeLineChecks
+      unfolding makeFromLineChecks
       make-line-sealed sealed =
           front-as {cs = line-signing} {ds = line-sizes ++ reading ++ line-signing}
           (by-third line-sizes reading line-signing (sym tested ∙ none) (rw (← read) refl))

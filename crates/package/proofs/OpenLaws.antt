@@ -17,17 +17,14 @@ use Rattle.profile.specs.Rules.{Class}
 use Rattle.profile.specs.Line.{readLine}
 use Rattle.scheme.specs.Sign.{signatureSize}
 use Rattle.scheme.specs.Verify.{verifyChecks, verify}
-use Rattle.verifier.proofs.Answering.{stops, goes-on}
+use Rattle.outcome.proofs.Answering.{stops, goes-on}
+use Rattle.outcome.proofs.Computed.{both-left}
 use Rattle.store.specs.Calls.{after}
 use Rattle.package.specs.declared.load.Opened.the-variants as opening
 use Rattle.package.specs.Package.{packageMin, packageMax, signatureIn, lineIn, openSizes, openChecks, opened}
 use Rattle.package.specs.Entries.{Opens}
 
 -- ---- the parts of a package
-
-both-left : (a b : Bool) → T (a && b) → T a
-both-left true b h = tt
-both-left false b h = absurd h
 
 -- a package of a right size has all of a signature
 pub signature-within : (p : Params) (key sealed : ℕ) → firstRefusal (openSizes p key sealed) ≡ 0

@@ -4,7 +4,7 @@ use mathlib.Core.List.{List, _++_}
 use Prim.Native.Nat.{ℕ}
 use Rattle.outcome.specs.Answer.{Check, firstRefusal}
 use Rattle.outcome.proofs.Checks.{passed-front}
-use Rattle.verifier.proofs.Answering.{stops, goes-on}
+use Rattle.outcome.proofs.Answering.{stops, goes-on}
 
 -- of three lists of tests in a row: the first that refuses, else the second, else the third
 module _ (xs ys zs : List Check) where

@@ -8,7 +8,7 @@ use lib.Dec.{T, eqb}
 use lib.ListN.{length, length-append}
 use lib.Seq.{take-at, drop-at}
 use borrow.Author.Tests.{eq-eqb}
-use Rattle.outcome.specs.Answer.{bad-size, bad-line, bad-device, Check, _unless_, firstRefusal, pick}
+use Rattle.outcome.specs.Answer.{bad-size, bad-profile, bad-device, Check, _unless_, firstRefusal, pick}
 use Rattle.outcome.proofs.Checks.{passed, passed-front, both-passed}
 use Rattle.parameters.specs.declared.Params.{Params}
 use Rattle.profile.specs.declared.Profile.{Profile}
@@ -50,7 +50,7 @@ pub made-passed : (p : Params) (table : List Class) (private master salt : List 
 unfolding makeChecks
 made-passed p table private master salt profile lent e =
     let sizes : List Check = makeSizes p private master salt lent in
-    let rule : List Check = bad-line unless valid table profile ∷ [] in
+    let rule : List Check = bad-profile unless valid table profile ∷ [] in
     let all = both-passed (sizes ++ rule) (signChecks p private master salt (lineOf profile) (signatureSize p)) e in
     (passed rule (both-passed sizes rule (all .0) .1) .0, all .1)
 

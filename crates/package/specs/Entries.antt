@@ -17,7 +17,7 @@ use Rattle.package.specs.Package.{
   packageMax,
   packageOf,
   makeChecks,
-  makeLineChecks,
+  makeFromLineChecks,
   lineIn,
   openNumber,
   openValues,
@@ -45,7 +45,7 @@ module _ (p : Params) where
 
   abbrev pub MakesFromLine : List Class → List ℕ → List ℕ → List ℕ → List ℕ → List ℕ → ℕ → ℕ → List ℕ → ℕ → Type 0
   MakesFromLine table private master salt line old =
-      AnswersFront (makeLineChecks p table private master salt line (length old))
+      AnswersFront (makeFromLineChecks p table private master salt line (length old))
       (packageOf p private master salt line) old
 
   -- ---- opening

@@ -6,7 +6,7 @@ use mathlib.Core.List.{List, [], _∷_, _++_}
 use Prim.Native.Nat.{ℕ, _+_}
 use lib.Dec.{eqb}
 use lib.ListN.{length, take, drop}
-use Rattle.outcome.specs.Answer.{bad-size, bad-line, bad-device, Check, _unless_}
+use Rattle.outcome.specs.Answer.{bad-size, bad-profile, bad-device, Check, _unless_}
 use Rattle.parameters.specs.declared.Params.{Params}
 use Rattle.profile.specs.declared.Profile.{Profile}
 use Rattle.outcome.specs.Result.{Result, done, refused, refusalIn}
@@ -63,12 +63,12 @@ module _ (p : Params) where
   unfoldable pub makeChecks : List Class → List ℕ → List ℕ → List ℕ → Profile → ℕ → List Check
   makeChecks table private master salt profile lent =
       makeSizes private master salt lent
-      ++ (bad-line unless valid table profile ∷ [])
+      ++ (bad-profile unless valid table profile ∷ [])
       ++ signChecks p private master salt (lineOf profile) (signatureSize p)
 
   -- from a line's bytes: sizes; the line's size and rules, as `readLine` has them; then signing it
-  unfoldable pub makeLineChecks : List Class → List ℕ → List ℕ → List ℕ → List ℕ → ℕ → List Check
-  makeLineChecks table private master salt line lent =
+  unfoldable pub makeFromLineChecks : List Class → List ℕ → List ℕ → List ℕ → List ℕ → ℕ → List Check
+  makeFromLineChecks table private master salt line lent =
       makeSizes private master salt lent
       ++ refusalIn (readLine table line)
       ++ signChecks p private master salt line (signatureSize p)

@@ -1,5 +1,8 @@
 // Loading a package: a profile is stored only where its signature holds and it is for this device.
 use crate::sizes;
+use outcome::BAD_DEVICE;
+use outcome::BAD_PROFILE;
+use outcome::BAD_SIZE;
 use parameters::Params;
 use profile::Profile;
 use profile::ReadLine;
@@ -8,7 +11,7 @@ use store::STORE_SIZE;
 use store::device_of;
 use store::device_ok;
 use store::put;
-ghost use Rattle.expand.specs.Scratch.{Scratch};
+ghost use Rattle.expand.specs.InnerScratch.{Scratch};
 ghost use Rattle.profile.specs.Rules.{classes};
 ghost use Rattle.package.specs.Entries.{Opens, Loads};
 
@@ -34,8 +37,8 @@ pub fn open(p: Params, key: &[u8], sealed: &[u8], block: &mut [u8], vs: &mut [u8
     }
     match read_line(&sealed[size..]) {
         ReadLine::Read(profile) => Opened::Profile(profile),
-        ReadLine::BadSize => Opened::Refused(1),
-        ReadLine::BadLine => Opened::Refused(5),
+        ReadLine::BadSize => Opened::Refused(BAD_SIZE),
+        ReadLine::BadLine => Opened::Refused(BAD_PROFILE),
     }
 }
 
@@ -57,14 +60,14 @@ pub fn load(
         (now (store .exit)) ⌝ }
 {
     if country.len() != 2 {
-        return 10;
+        return BAD_DEVICE;
     }
     let device = device_of(country, class);
     if !device_ok(device) {
-        return 10;
+        return BAD_DEVICE;
     }
     if store.len() != STORE_SIZE {
-        return 1;
+        return BAD_SIZE;
     }
     match open(p, key, sealed, block, vs) {
         Opened::Profile(profile) => put(store, profile, device),

@@ -1,5 +1,7 @@
 // Making a package: a line is signed, and follows its signature.
 use crate::sizes;
+use outcome::BAD_PROFILE;
+use outcome::BAD_SIZE;
 use parameters::Params;
 use profile::LONGEST;
 use profile::Profile;
@@ -7,7 +9,7 @@ use profile::ReadLine;
 use profile::WriteLine;
 use profile::read_line;
 use profile::write_line;
-ghost use Rattle.signer.specs.Scratch.{SignScratch};
+ghost use Rattle.signer.specs.InnerScratch.{SignScratch};
 ghost use Rattle.profile.specs.Rules.{classes};
 ghost use Rattle.package.specs.Entries.{Room, Seals, MakesPackage, MakesFromLine};
 
@@ -91,8 +93,8 @@ pub fn make_package(
             out,
             length,
         ),
-        WriteLine::BadSize => 1,
-        WriteLine::BadProfile => 5,
+        WriteLine::BadSize => BAD_SIZE,
+        WriteLine::BadProfile => BAD_PROFILE,
     }
 }
 
@@ -133,7 +135,7 @@ pub fn make_from_line(
             out,
             length,
         ),
-        ReadLine::BadSize => 1,
-        ReadLine::BadLine => 5,
+        ReadLine::BadSize => BAD_SIZE,
+        ReadLine::BadLine => BAD_PROFILE,
     }
 }

@@ -1,4 +1,5 @@
 // The sizes of packages, and of what making and opening one takes.
+use outcome::BAD_SIZE;
 use parameters::Params;
 use profile::LONGEST;
 use profile::SHORTEST;
@@ -14,16 +15,16 @@ pub fn check_make(p: Params, private: &[u8], master: &[u8], salt: &[u8], lent: u
         ⌜ r ≡ firstRefusal (makeSizes p (now (private .entry)) (now (master .entry)) (now (salt .entry)) lent) ⌝ }
 {
     if private.len() != p.digest {
-        return 1;
+        return BAD_SIZE;
     }
     if master.len() != p.seed {
-        return 1;
+        return BAD_SIZE;
     }
     if salt.len() != p.digest {
-        return 1;
+        return BAD_SIZE;
     }
     if lent != scheme::signature_size(p) + LONGEST {
-        return 1;
+        return BAD_SIZE;
     }
     0
 }
@@ -34,14 +35,14 @@ pub fn check_open(p: Params, key: usize, sealed: usize) -> u8
     ensures { λ r. ⌜ r ≡ firstRefusal (openSizes p key sealed) ⌝ }
 {
     if key != scheme::key_size(p) {
-        return 1;
+        return BAD_SIZE;
     }
     let size = scheme::signature_size(p);
     if sealed < size + SHORTEST {
-        return 1;
+        return BAD_SIZE;
     }
     if sealed > size + LONGEST {
-        return 1;
+        return BAD_SIZE;
     }
     0
 }

@@ -1,2 +1,2 @@
 pub mod Packing
-pub mod Vector
+pub mod InnerVector

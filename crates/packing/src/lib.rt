@@ -3,6 +3,8 @@
 // It is a change of base: eight fields of w bits are the same number as w bytes. So packing and unpacking are one
 // code: `regroup` reads each whole group as a number and writes that number in the other base, and `finish` does
 // the same with what is left over. The functions with constant widths call small generic ones, which then inline.
+use outcome::BAD_FIELD;
+use outcome::BAD_SIZE;
 ghost use mathlib.Core.Path.{_≡_};
 ghost use mathlib.Core.Bool.{true, false};
 ghost use mathlib.Core.List.{_++_};
@@ -127,10 +129,10 @@ fn pack_refusal(xs: &[u8], bytes: usize, w: usize, m: u8) -> u8
     ensures { λ r. ⌜ r ≡ firstRefusal (packChecks w m (now (xs .entry)) bytes) ⌝ }
 {
     if bytes != packed_size(xs.len(), w) {
-        return 1;
+        return BAD_SIZE;
     }
     if m <= largest(xs) {
-        return 3;
+        return BAD_FIELD;
     }
     0
 }
@@ -188,10 +190,10 @@ fn unpack_refusal(packed: &[u8], n: usize, w: usize, seen: u64) -> u8
     let at = n / 8 * w;
     let v = gather(packed, at, 8, packed.len() - at);
     if pow2(w) <= see(v, w, n % 8, seen) {
-        return 3;
+        return BAD_FIELD;
     }
     if pow2(n % 8 * w) <= v {
-        return 3;
+        return BAD_FIELD;
     }
     0
 }
@@ -273,7 +275,7 @@ pub fn unpack_values(packed: &[u8], values: &mut [u8]) -> u8
 {
     let n = values.len();
     if packed.len() != packed_size(n, 7) {
-        return 1;
+        return BAD_SIZE;
     }
     if n <= 256 {
         return unpack_few_values(packed, values);
@@ -313,7 +315,7 @@ pub fn unpack_exponents(packed: &[u8], exponents: &mut [u8]) -> u8
 {
     let n = exponents.len();
     if packed.len() != packed_size(n, 3) {
-        return 1;
+        return BAD_SIZE;
     }
     if n <= 256 {
         return unpack_few_exponents(packed, exponents);

@@ -59,7 +59,9 @@ pub const PACKED_EXPONENTS: usize = PLACES * 3 / 8;
 
 pub const PACKED_CHALLENGES: usize = ROUNDS * 7 / 8;
 
-// The block of a draw of exponents, mask values or first challenges; and that of the second challenge.
+// The block of a draw of exponents; of these, mask values or first challenges; and that of the second challenge.
+pub const EXPONENTS_BLOCK: usize = 256;
+
 pub const BLOCK: usize = 384;
 
 pub const SECOND_BLOCK: usize = 1024;

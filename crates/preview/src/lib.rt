@@ -96,7 +96,7 @@ fn hold_lines(store: &mut [u8], input: &[u8])
 }
 
 // Copies a text to the front of the lent bytes, and returns its length.
-fn put_text(text: &[u8], out: &mut [u8]) -> usize
+fn append_text(text: &[u8], out: &mut [u8]) -> usize
     requires { ⌜ Room (now out) 0 (now text) ⌝ }
     ensures { λ r. ⌜ Appended (now (out .entry)) 0 (now (text .entry)) (now (out .exit)) r ⌝ }
 {
@@ -106,7 +106,7 @@ fn put_text(text: &[u8], out: &mut [u8]) -> usize
 }
 
 // Writes a profile's row from place `at`, and returns the place after it.
-fn put_row(p: Profile, out: &mut [u8], at: usize) -> usize
+fn append_row(p: Profile, out: &mut [u8], at: usize) -> usize
     requires { ⌜ at + longestRow ≤ length (now out) ⌝ }
     ensures { λ r. ⌜ Appended (now (out .entry)) at (row p) (now (out .exit)) r ⌝ }
     ensures within { λ r. ⌜ r ≤ at + longestRow ⌝ }
@@ -120,7 +120,7 @@ fn put_row(p: Profile, out: &mut [u8], at: usize) -> usize
 }
 
 // The row of a slot that is used.
-fn put_slot(slot: &[u8], out: &mut [u8], at: usize) -> usize
+fn append_slot(slot: &[u8], out: &mut [u8], at: usize) -> usize
     requires { ⌜ length (now slot) ≡ profileSize ⌝ }
     requires { ⌜ at + longestRow ≤ length (now out) ⌝ }
     ensures { λ r. ⌜ Appended (now (out .entry)) at (rows (usedIn (now (slot .entry)))) (now (out .exit)) r ⌝ }
@@ -129,11 +129,11 @@ fn put_slot(slot: &[u8], out: &mut [u8], at: usize) -> usize
     if !is_used(slot) {
         return at;
     }
-    put_row(read_profile(slot), out, at)
+    append_row(read_profile(slot), out, at)
 }
 
 // The rows of all slots, in the order of the slots.
-fn put_rows(store: &[u8], out: &mut [u8], at: usize) -> usize
+fn append_rows(store: &[u8], out: &mut [u8], at: usize) -> usize
     requires { ⌜ length (now store) ≡ storeSize ⌝ }
     requires { ⌜ at + capacity * longestRow ≤ length (now out) ⌝ }
     ensures { λ r. ⌜ Appended (now (out .entry)) at (rows (stored (now (store .entry)))) (now (out .exit)) r ⌝ }
@@ -144,7 +144,7 @@ fn put_rows(store: &[u8], out: &mut [u8], at: usize) -> usize
     while i < CAPACITY {
         let start = PROFILE_SIZE * i;
         let end = start + PROFILE_SIZE;
-        next = put_slot(&store[start..end], out, next);
+        next = append_slot(&store[start..end], out, next);
         i += 1;
     }
     next
@@ -158,10 +158,10 @@ pub fn preview(input: &[u8], out: &mut [u8]) -> Previewed
         return Previewed::BadSize;
     }
     if input.len() > LONGEST_INPUT {
-        return Previewed::Length(put_text(b"too long\n", out));
+        return Previewed::Length(append_text(b"too long\n", out));
     }
     let mut store = [0u8; STORE_SIZE];
     hold_lines(&mut store, input);
-    let at = put_text(b"COUNTRY,CLASS,SERIAL\n", out);
-    Previewed::Length(put_rows(&store, out, at))
+    let at = append_text(b"COUNTRY,CLASS,SERIAL\n", out);
+    Previewed::Length(append_rows(&store, out, at))
 }

@@ -1,4 +1,5 @@
 // Lists what a device would hold after the profile lines on standard input, each taken as if it were signed.
+use preview::LENT_SIZE;
 use preview::Previewed;
 use preview::preview;
 
@@ -8,7 +9,7 @@ fn main() {
     // Reads on until the buffer is full or the input ends; an error counts as the end.
     let length = io::read_full(0, &mut input);
     // As many bytes as the listing may have, so that nothing is refused.
-    let mut out = [0u8; 277];
+    let mut out = [0u8; LENT_SIZE];
     let answer = preview(&input[..length], &mut out);
     let Previewed::Length(n) = answer else {
         return;

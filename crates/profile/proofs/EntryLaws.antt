@@ -6,7 +6,7 @@ use Prim.Native.Nat.{ℕ}
 use native.Mathlib.Omega.{arith}
 use lib.ListN.{length, take}
 use borrow.Author.Tests.{eq-eqb, ne-eqb}
-use Rattle.outcome.specs.Answer.{bad-size, bad-line}
+use Rattle.outcome.specs.Answer.{bad-size, bad-profile}
 use Rattle.outcome.specs.Lists.{same}
 use Rattle.decimal.specs.Decimal.{Room, Appended}
 use Rattle.decimal.proofs.Stores.{front-length, front}
@@ -26,17 +26,17 @@ module _ (table : List Class) (line : List ℕ) where
   read-size size = rw size
 
   module _ (size : contains (shortest to longest) (length line) ≡ true) where
-    pub read-tag : same (take (length tag) line) tag ≡ false → readLine table line ≡ refused bad-line
+    pub read-tag : same (take (length tag) line) tag ≡ false → readLine table line ≡ refused bad-profile
     unfolding readLine
     read-tag tagged = rw (size, tagged)
 
     module _ (tagged : same (take (length tag) line) tag ≡ true) where
-      pub read-broken : valid table (scanned line) ≡ false → readLine table line ≡ refused bad-line
+      pub read-broken : valid table (scanned line) ≡ false → readLine table line ≡ refused bad-profile
       unfolding readLine
       read-broken ok = rw (size, tagged, ok)
 
       module _ (ok : valid table (scanned line) ≡ true) where
-        pub read-respelled : same (lineOf (scanned line)) line ≡ false → readLine table line ≡ refused bad-line
+        pub read-respelled : same (lineOf (scanned line)) line ≡ false → readLine table line ≡ refused bad-profile
         unfolding readLine
         read-respelled again = rw (size, tagged, ok, again)
 

@@ -20,7 +20,7 @@ use Rattle.profile.specs.declared.scan.TripRead.{TripRead}
 use Rattle.profile.specs.declared.Profile.{Profile}
 use Rattle.profile.specs.Rules.{share, above, below, plain, inOneOf, kindOf, sizeOf, Field, tripFields, fieldsOf, Rule, rules, fits, obeys}
 use Rattle.profile.specs.Line.{comma, minus, lineFeed, lead, fieldBytes, written, headOf, lineOf, shortest, longest, fieldNumber, afterField, numbersIn, limitOf, profileFrom, scanned}
-use Rattle.profile.specs.Places.{FieldAt, TripAt}
+use Rattle.profile.specs.InnerPlaces.{FieldAt, TripAt}
 use Rattle.profile.proofs.RuleLaws.{and-first, and-rest, same-kinds, fewest, most, top, range-bounds}
 
 -- ---- lengths

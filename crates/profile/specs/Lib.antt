@@ -1,5 +1,5 @@
 pub mod Rules
 pub mod Line
-pub mod Places
+pub mod InnerPlaces
 pub mod Theorems
 pub mod Bench

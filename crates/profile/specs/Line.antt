@@ -7,7 +7,7 @@ use mathlib.Core.List.{List, [], _∷_, _++_}
 use Prim.Native.Nat.{ℕ, suc}
 use lib.Dec.{eqb}
 use lib.ListN.{length, getD, take, drop}
-use Rattle.outcome.specs.Answer.{bad-size, bad-line, Check, _unless_, pick}
+use Rattle.outcome.specs.Answer.{bad-size, bad-profile, Check, _unless_, pick}
 use Rattle.outcome.specs.Lists.{same}
 use Rattle.decimal.specs.Decimal.{decimal, leadingNumber, afterNumber}
 use Rattle.profile.specs.declared.Limit.{Limit}
@@ -108,9 +108,9 @@ scanned line = profileFrom line (numbersIn rules (drop 8 line))
 abbrev pub readChecks : List Class → List ℕ → List Check
 readChecks table line =
     bad-size unless contains (shortest to longest) (length line)
-    ∷ bad-line unless same (take (length tag) line) tag
-    ∷ bad-line unless valid table (scanned line)
-    ∷ bad-line unless same (lineOf (scanned line)) line
+    ∷ bad-profile unless same (take (length tag) line) tag
+    ∷ bad-profile unless valid table (scanned line)
+    ∷ bad-profile unless same (lineOf (scanned line)) line
     ∷ []
 
 unfoldable pub readLine : List Class → List ℕ → Result Profile
@@ -120,12 +120,12 @@ readLine table line = answer (readChecks table line) (scanned line)
 abbrev pub readAnswer : ReadLine → Result Profile
 readAnswer (reading.Read p) = done p
 readAnswer reading.BadSize = refused bad-size
-readAnswer reading.BadLine = refused bad-line
+readAnswer reading.BadLine = refused bad-profile
 
 -- ---- writing
 
 abbrev pub writeChecks : List Class → Profile → List ℕ → List Check
-writeChecks table p lent = bad-size unless eqb (length lent) longest ∷ bad-line unless valid table p ∷ []
+writeChecks table p lent = bad-size unless eqb (length lent) longest ∷ bad-profile unless valid table p ∷ []
 
 -- the length of the line
 unfoldable pub writeLine : List Class → Profile → List ℕ → Result ℕ
@@ -135,7 +135,7 @@ writeLine table p lent = answer (writeChecks table p lent) (length (lineOf p))
 abbrev pub writeAnswer : WriteLine → Result ℕ
 writeAnswer (writing.Written n) = done n
 writeAnswer writing.BadSize = refused bad-size
-writeAnswer writing.BadProfile = refused bad-line
+writeAnswer writing.BadProfile = refused bad-profile
 
 -- the lent bytes hold the line and past it what they held; after a refusal all is as it was
 pub record Writes (table : List Class) (p : Profile) (old : List ℕ) (r : WriteLine) (lent : List ℕ) : Type 0 where

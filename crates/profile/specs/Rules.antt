@@ -4,7 +4,7 @@ use mathlib.Core.Bool.{Bool, true, false, _&&_, _||_}
 use mathlib.Core.List.{List, [], _∷_, _++_}
 use Prim.Native.Nat.{ℕ}
 use lib.Dec.{leb, eqb}
-use Rattle.outcome.specs.Answer.{bad-line, pick}
+use Rattle.outcome.specs.Answer.{bad-profile, pick}
 use Rattle.profile.specs.declared.Limit.{Limit}
 use Rattle.profile.specs.declared.Limit.the-variants.{Share, Offset}
 use Rattle.profile.specs.declared.Trip.{Trip}
@@ -124,13 +124,13 @@ classes = class 65 (100 to 139) ∷ class 66 (140 to 259) ∷ class 67 (260 to 5
 
 -- the class of nominal volts under a table, or the refusal that a broken field rule gives
 abbrev pub classIn : List Class → ℕ → Result ℕ
-classIn [] n = refused bad-line
+classIn [] n = refused bad-profile
 classIn (c ∷ cs) n = pick (contains (c .volts) n) (done (c .letter)) (classIn cs n)
 
 -- what each case of `class_of`'s answer means
 abbrev pub classAnswer : ClassFound → Result ℕ
 classAnswer (Letter c) = done c
-classAnswer OutOfRange = refused bad-line
+classAnswer OutOfRange = refused bad-profile
 
 -- a class was found, and is this letter
 abbrev pub isClass : Result ℕ → ℕ → Bool

@@ -1,12 +1,12 @@
 // Grid profiles and their lines: a profile is read only from the one line that means it, and written as that line.
-mod put;
 pub mod rules;
 mod scan;
+mod write;
 
 use buffers::equal;
-use put::put_line;
 use rules::valid;
 use scan::scan;
+use write::append_line;
 ghost use mathlib.Core.Path.{_≡_};
 ghost use Rattle.profile.specs.Rules.{classes, classIn, classAnswer};
 ghost use Rattle.profile.specs.Line.{readLine, readAnswer, Writes};
@@ -98,7 +98,7 @@ pub fn read_line(line: &[u8]) -> ReadLine
         return ReadLine::BadLine;
     }
     let mut again = [0u8; LONGEST];
-    let end = put_line(p, &mut again);
+    let end = append_line(p, &mut again);
     if equal(&again[..end], line) {
         return ReadLine::Read(p);
     }
@@ -115,5 +115,5 @@ pub fn write_line(p: Profile, out: &mut [u8]) -> WriteLine
     if !valid(p) {
         return WriteLine::BadProfile;
     }
-    WriteLine::Written(put_line(p, out))
+    WriteLine::Written(append_line(p, out))
 }

@@ -13,7 +13,7 @@ ghost use mathlib.Core.Path.{_≡_};
 ghost use Prim.Native.Nat.{_≤_};
 ghost use lib.ListN.{length};
 ghost use Rattle.profile.specs.Line.{lead, limitOf, scanned};
-ghost use Rattle.profile.specs.Places.{FieldAt, TripAt};
+ghost use Rattle.profile.specs.InnerPlaces.{FieldAt, TripAt};
 
 // A trip point that was read, and the place after it.
 pub struct TripRead {

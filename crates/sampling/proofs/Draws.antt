@@ -12,7 +12,7 @@ use lib.Seq.{length-take-le, take-append-le, take-take}
 use Rattle.packing.specs.Packing.{number, digits}
 use Rattle.packing.proofs.Below.{Below}
 use Rattle.sampling.specs.Sampling.{fields, keep, yield, sample, enough}
-use Rattle.sampling.specs.Scratch.{Sampled}
+use Rattle.sampling.specs.InnerScratch.{Sampled}
 use Rattle.sampling.proofs.Fields.{fields-at, fields-rest}
 use Rattle.sampling.proofs.Kept.{keep-append}
 

@@ -12,7 +12,7 @@ use lib.Seq.{drop-length, drop-at}
 use Rattle.outcome.specs.Answer.{pick}
 use Rattle.sampling.specs.Sampling.{fields, enough}
 use Rattle.sampling.specs.Shuffle.{limit, partners, exchange, exchanges, shuffle, shuffles}
-use Rattle.sampling.specs.Scratch.{Shuffled, nextPosition, nextPositions}
+use Rattle.sampling.specs.InnerScratch.{Shuffled, nextPosition, nextPositions}
 
 -- with the fields rs left, position j and the positions ps lead to the shuffle
 pub record Leads (t w : ℕ) (block rs : List ℕ) (j : ℕ) (ps : List ℕ) : Type 0 where

@@ -1,5 +1,5 @@
 pub mod Sampling
 pub mod Shuffle
 pub mod Weight
-pub mod Scratch
+pub mod InnerScratch
 pub mod Entry

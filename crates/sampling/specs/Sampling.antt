@@ -6,7 +6,7 @@ use mathlib.Core.List.{List, [], _∷_}
 use Prim.Native.Nat.{ℕ, _+_, _*_, _/_}
 use lib.Dec.{ltb, leb, eqb}
 use lib.ListN.{length, take}
-use Rattle.outcome.specs.Answer.{Check, _unless_, bad-size, short, pick}
+use Rattle.outcome.specs.Answer.{Check, _unless_, bad-size, short-draw, pick}
 use Rattle.packing.specs.Packing.{unpack}
 
 -- the whole fields of width w in a block; bits left over at its end are not looked at
@@ -35,5 +35,5 @@ unfoldable pub sampleChecks : ℕ → ℕ → ℕ → ℕ → ℕ → List ℕ �
 sampleChecks w m d n bytes block out =
     bad-size unless eqb (length block) bytes ∷
     bad-size unless eqb out n ∷
-    short unless enough n (yield w m d block) ∷
+    short-draw unless enough n (yield w m d block) ∷
     []

@@ -5,7 +5,7 @@ use mathlib.Core.List.{List, [], _∷_, _++_}
 use Prim.Native.Nat.{ℕ, zero, suc, _+_, _-_, _*_, _/_, _%_}
 use lib.Dec.{ltb, eqb}
 use lib.ListN.{length, getD, set, replicate}
-use Rattle.outcome.specs.Answer.{Check, _unless_, bad-size, short, pick}
+use Rattle.outcome.specs.Answer.{Check, _unless_, bad-size, short-draw, pick}
 use Rattle.sampling.specs.Sampling.{fields, enough}
 
 -- the greatest multiple of m up to 65536: fields from there on are dropped, so that each remainder is as likely
@@ -39,5 +39,5 @@ unfoldable pub shuffleChecks : ℕ → ℕ → List ℕ → ℕ → List Check
 shuffleChecks t bytes block out =
     bad-size unless eqb (length block) bytes ∷
     bad-size unless eqb out t ∷
-    short unless shuffles t block ∷
+    short-draw unless shuffles t block ∷
     []

@@ -5,7 +5,7 @@ ghost use Prim.Native.Nat.{_+_, _*_, _/_, _^_, _<_, _≤_};
 ghost use lib.ListN.{length, take, drop};
 ghost use Rattle.packing.specs.Packing.{number, digits};
 ghost use Rattle.sampling.specs.Sampling.{keep, yield};
-ghost use Rattle.sampling.specs.Scratch.{Room, Sampled};
+ghost use Rattle.sampling.specs.InnerScratch.{Room, Sampled};
 
 // A draw: the fields of `width` bits of a block of `bytes` bytes, of which those below `limit` are kept, each plus
 // `added`, until there are `count`.

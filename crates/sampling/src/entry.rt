@@ -1,10 +1,12 @@
 // The entries of the draws, for every size: the sizes are tested, the draw is made in scratch, and only a draw that is
 // enough is copied to what was lent.
 use crate::draw::Draw;
+use outcome::BAD_SIZE;
+use outcome::SHORT_DRAW;
 ghost use Prim.Native.Nat.{_<_, _≤_};
 ghost use lib.ListN.{length};
 ghost use Rattle.sampling.specs.Entry.{AnswersSample, AnswersShuffle};
-ghost use Rattle.sampling.specs.Scratch.{Room};
+ghost use Rattle.sampling.specs.InnerScratch.{Room};
 
 // A draw, where the block has its bytes and `out` its count.
 pub fn sample_into(out: &mut [u8], scratch: &mut [u8], block: &[u8], d: Draw) -> u8
@@ -15,14 +17,14 @@ pub fn sample_into(out: &mut [u8], scratch: &mut [u8], block: &[u8], d: Draw) ->
 {
     let n = d.count;
     if block.len() != d.bytes {
-        return 1;
+        return BAD_SIZE;
     }
     if out.len() != n {
-        return 1;
+        return BAD_SIZE;
     }
     let got = crate::draw::sample(scratch, block, d);
     if got < n {
-        return 2;
+        return SHORT_DRAW;
     }
     buffers::copy(out, &scratch[..n]);
     0
@@ -36,14 +38,14 @@ pub fn shuffle_into(out: &mut [u8], scratch: &mut [u8], block: &[u8], bytes: usi
         (now (block .entry)) (now (out .entry)) r (now (out .exit)) ⌝ }
 {
     if block.len() != bytes {
-        return 1;
+        return BAD_SIZE;
     }
     if out.len() != scratch.len() {
-        return 1;
+        return BAD_SIZE;
     }
     if crate::shuffle::shuffle(scratch, block, w) {
         buffers::copy(out, scratch);
         return 0;
     }
-    2
+    SHORT_DRAW
 }

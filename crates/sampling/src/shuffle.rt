@@ -3,7 +3,7 @@ ghost use mathlib.Core.Path.{_≡_};
 ghost use mathlib.Core.List.{_++_};
 ghost use Prim.Native.Nat.{_+_, _-_, _*_, _<_, _≤_};
 ghost use lib.ListN.{length, drop, getD, replicate};
-ghost use Rattle.sampling.specs.Scratch.{Shuffled, nextPosition, nextPositions};
+ghost use Rattle.sampling.specs.InnerScratch.{Shuffled, nextPosition, nextPositions};
 
 fn wide(x: u8) -> usize
     ensures { λ r. ⌜ (r ≡ x) × (r < 256) ⌝ }

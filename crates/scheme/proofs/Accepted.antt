@@ -8,12 +8,12 @@ use native.Mathlib.Omega.{arith}
 use borrow.Author.Tests.{eq-eqb, le-leb}
 use lib.ListN.{length, drop, length-append, length-drop}
 use lib.Seq.{take-at, drop-at, length-take-le}
-use Rattle.outcome.specs.Answer.{Check, _unless_, short, firstRefusal}
+use Rattle.outcome.specs.Answer.{Check, _unless_, short-draw, firstRefusal}
 use Rattle.outcome.specs.Lists.{flat}
 use Rattle.outcome.proofs.Checks.{passed-front}
 use Rattle.parameters.specs.declared.Params.{Params}
 use Rattle.parameters.specs.Sound.{Sound}
-use Rattle.scheme.specs.Strings.{string9, joined}
+use Rattle.scheme.specs.Strings.{roundSeedsString, joined}
 use Rattle.scheme.specs.Key.{
   publicSeed,
   matrix,
@@ -41,7 +41,7 @@ round-sized : (p : Params) → Sound p → (master salt : List ℕ) (j : ℕ) �
 unfolding roundSeed roundSeeds
 round-sized p sound master salt j l =
     length-take-le (p .seed) (drop (p .seed * j) (roundSeeds p master salt))
-    (rw (length-drop (p .seed * j) (roundSeeds p master salt), length-bytes p sound (string9 master salt) (p .t * p .seed))
+    (rw (length-drop (p .seed * j) (roundSeeds p master salt), length-bytes p sound (roundSeedsString master salt) (p .t * p .seed))
     (omega (arith, mul-le-mul-right (p .seed) l)))
 
 -- the pieces of a signature, as the verifier cuts them
@@ -73,7 +73,7 @@ cut p salt c h rounds salt-sized c-sized h-sized =
 -- tests that hold one after another make the verifier answer 0
 module _ (p : Params) (key msg sig : List ℕ) where
   abbrev matrixDraw : List Check
-  matrixDraw = short unless matrixDrawn p (seedOf p key) ∷ []
+  matrixDraw = short-draw unless matrixDrawn p (seedOf p key) ∷ []
 
   abbrev pieces : List Check
   pieces =

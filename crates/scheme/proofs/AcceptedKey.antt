@@ -6,7 +6,7 @@ use Prim.Native.Nat.{ℕ, _-_, _*_}
 use native.Mathlib.Omega.{arith}
 use lib.ListN.{length, drop, length-append, length-drop}
 use lib.Seq.{take-at, drop-at}
-use Rattle.outcome.specs.Answer.{Check, _unless_, short, firstRefusal}
+use Rattle.outcome.specs.Answer.{Check, _unless_, short-draw, firstRefusal}
 use Rattle.outcome.proofs.Checks.{passed, both-passed}
 use Rattle.packing.specs.Packing.{pack}
 use Rattle.packing.proofs.Below.{Below}
@@ -15,7 +15,7 @@ use Rattle.parameters.specs.Sound.{Sound}
 use Rattle.linear.specs.Linear.{powers, syndrome}
 use Rattle.linear.proofs.Sizes.{length-powers, length-syndrome}
 use Rattle.linear.proofs.Ranges.{below-syndrome}
-use Rattle.scheme.specs.Strings.{string10, string12}
+use Rattle.scheme.specs.Strings.{keyExponentsString, keySeedsString}
 use Rattle.scheme.specs.Key.{
   keySeeds,
   secretSeed,
@@ -42,7 +42,7 @@ pub record Read (p : Params) (private : List ℕ) : Type 0 where
   pub syndrome : syndromeOf p (publicKey p private) ≡ keySyndrome p private
   pub sized : length (publicKey p private) ≡ keySize p
   pub fields : firstRefusal (keyFields p (publicKey p private)) ≡ 0
-  pub drawn : firstRefusal (short unless matrixDrawn p (seedOf p (publicKey p private)) ∷ []) ≡ 0
+  pub drawn : firstRefusal (short-draw unless matrixDrawn p (seedOf p (publicKey p private)) ∷ []) ≡ 0
   pub long : length (keyExponents p private) ≡ p .n
   pub ranged : Below 7 (keyExponents p private)
 
@@ -51,10 +51,10 @@ module _ (p : Params) (sound : Sound p) (private : List ℕ) (drawn : firstRefus
   key = publicKey p private
 
   abbrev matrixDraw : List Check
-  matrixDraw = short unless matrixDrawn p (publicSeed p private) ∷ []
+  matrixDraw = short-draw unless matrixDrawn p (publicSeed p private) ∷ []
 
   abbrev exponentsDraw : List Check
-  exponentsDraw = short unless exponentsDrawn p (string10 (secretSeed p private)) ∷ []
+  exponentsDraw = short-draw unless exponentsDrawn p (keyExponentsString (secretSeed p private)) ∷ []
 
   draws : (firstRefusal matrixDraw ≡ 0) × (firstRefusal exponentsDraw ≡ 0)
   unfolding keyDraws
@@ -64,18 +64,18 @@ module _ (p : Params) (sound : Sound p) (private : List ℕ) (drawn : firstRefus
   unfolding publicSeed keySeeds
   length-public =
       length-drop (p .digest) (keySeeds p private) ∙
-      ap (λ (k : ℕ). k - p .digest) (length-bytes p sound (string12 private) (2 * p .digest)) ∙
+      ap (λ (k : ℕ). k - p .digest) (length-bytes p sound (keySeedsString private) (2 * p .digest)) ∙
       omega arith
 
   length-key : length (keyExponents p private) ≡ p .n
   unfolding keyExponents
   length-key =
-      length-exponents p (string10 (secretSeed p private))
+      length-exponents p (keyExponentsString (secretSeed p private))
       (passed exponentsDraw (draws .1) .0)
 
   below-key : Below 7 (keyExponents p private)
   unfolding keyExponents
-  below-key = below-exponents p (string10 (secretSeed p private))
+  below-key = below-exponents p (keyExponentsString (secretSeed p private))
 
   packed-s : Packed 7 127 (p .n - p .k) (keySyndrome p private)
   unfolding keySyndrome
@@ -105,7 +105,7 @@ module _ (p : Params) (sound : Sound p) (private : List ℕ) (drawn : firstRefus
   unfolding keyFields
   key-fields = rw (syndrome-read, behind, packed-s .ranged, packed-s .spare)
 
-  key-matrix : firstRefusal (short unless matrixDrawn p (seedOf p key) ∷ []) ≡ 0
+  key-matrix : firstRefusal (short-draw unless matrixDrawn p (seedOf p key) ∷ []) ≡ 0
   key-matrix = rw seed-read (draws .0)
 
   pub read : Read p private

@@ -12,7 +12,7 @@ use Rattle.packing.proofs.Below.{Below}
 use Rattle.parameters.specs.declared.Params.{Params}
 use Rattle.parameters.specs.Sound.{Sound}
 use Rattle.linear.specs.Linear.{powers, syndrome}
-use Rattle.scheme.specs.Strings.{digest, aggregate, joined, string6}
+use Rattle.scheme.specs.Strings.{digest, aggregate, joined, allResponsesString}
 use Rattle.scheme.specs.Round.{roundDraws}
 use Rattle.scheme.specs.Sign.{partSize}
 use Rattle.scheme.specs.Sign as sign
@@ -75,7 +75,7 @@ module _
           flat-ext (verify.c1At p vs s salt parts β b) (sign.c1 p seed salt) (p .t) (λ j l. agreedⱼ j l .c1),
         )
 
-    h-agrees : digest p (string6 (flat (verify.hAt p vs s salt parts β b) (p .t))) ≡ h
+    h-agrees : digest p (allResponsesString (flat (verify.hAt p vs s salt parts β b) (p .t))) ≡ h
     unfolding sign.h sign.hOfAll
     h-agrees =
         rw (flat-ext (verify.hAt p vs s salt parts β b) (sign.hᵢ p seed salt β) (p .t) (λ j l. agreedⱼ j l .hᵢ))

@@ -20,7 +20,7 @@ use Rattle.linear.proofs.Sizes.{length-response}
 use Rattle.linear.proofs.Ranges.{below-response, below-syndrome}
 use Rattle.linear.proofs.Combined.{combined, combined-syndrome}
 use Rattle.linear.proofs.Honest.{lessTimes-combined}
-use Rattle.scheme.specs.Strings.{string0, string1}
+use Rattle.scheme.specs.Strings.{commitment0String, commitment1String}
 use Rattle.scheme.proofs.PartsStrings.{length-mask, length-values}
 use Rattle.scheme.proofs.PartsPacked.{Packed, packed}
 use Rattle.scheme.specs.Round.{
@@ -72,7 +72,7 @@ module _ (p : Params) (vs σ seed salt : List ℕ) (i β : ℕ) where
     pub long : length (replyTo b) ≡ replySize p b
     pub passes : firstRefusal (replyChecks p b (replyTo b) salt i) ≡ 0
     pub response : replyResponse p b β (replyTo b) salt i ≡ y
-    pub string : replyString p vs s b β (replyTo b) salt i ≡ pick (eqb b 1) (string1 u e salt i) (string0 s̃ σ salt i)
+    pub string : replyString p vs s b β (replyTo b) salt i ≡ pick (eqb b 1) (commitment1String u e salt i) (commitment0String s̃ σ salt i)
 
   module _
       (key : List ℕ)
@@ -149,15 +149,15 @@ module _ (p : Params) (vs σ seed salt : List ℕ) (i β : ℕ) where
           at false = values
 
       replied-string : (b : ℕ) →
-          replyString p vs s b β (replyTo b) salt i ≡ pick (eqb b 1) (string1 u e salt i) (string0 s̃ σ salt i)
+          replyString p vs s b β (replyTo b) salt i ≡ pick (eqb b 1) (commitment1String u e salt i) (commitment0String s̃ σ salt i)
       unfolding replyString
       replied-string b = at (eqb b 1)
         where
           at : (one : Bool) →
               let reply : List ℕ = pick one seed reply0 in
-              pick one (string1 (maskValues p reply salt i) (maskExponents p reply salt i) salt i)
-              (string0 (replySyndrome p vs s β reply) (replyExponents p reply) salt i) ≡
-              pick one (string1 u e salt i) (string0 s̃ σ salt i)
+              pick one (commitment1String (maskValues p reply salt i) (maskExponents p reply salt i) salt i)
+              (commitment0String (replySyndrome p vs s β reply) (replyExponents p reply) salt i) ≡
+              pick one (commitment1String u e salt i) (commitment0String s̃ σ salt i)
           at true = refl
           at false = rw (syndromes, exponents)
 

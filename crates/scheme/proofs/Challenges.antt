@@ -12,7 +12,7 @@ use lib.Dec.{T, eqb}
 use lib.ListN.{length, getD}
 use Rattle.outcome.specs.Lists.{total}
 use Rattle.outcome.proofs.Lists.{total-first}
-use Rattle.packing.specs.Vector.{Vector}
+use Rattle.packing.specs.InnerVector.{Vector}
 use Rattle.packing.proofs.Below.{Below}
 use Rattle.parameters.specs.declared.Params.{Params}
 use Rattle.parameters.specs.Sound.{Sound}

@@ -27,7 +27,7 @@ use Rattle.scheme.specs.Round.{
   replyString,
 }
 use Rattle.scheme.specs.Duty.{Excuses, OpensKey, Opens, committed, responded}
-use Rattle.scheme.proofs.OpensStrings.{Vector, string0-tells, string1-tells, string2-tells}
+use Rattle.scheme.proofs.OpensStrings.{Vector, commitment0-tells, commitment1-tells, response-tells}
 use Rattle.scheme.proofs.OpensAnswers.{Replied0, Replied1, replied0, replied1}
 
 -- ---- two strings behind one digest are equal, or excuse
@@ -120,7 +120,7 @@ module _
     same-transformation : (s̃ p key β σ y ≡ s̃ p key β′ σ′ y′) × (σ ≡ σ′)
     unfolding replyString replySyndrome
     same-transformation =
-        string0-tells (p .n - p .k) (p .n) salt i _ _ σ σ′
+        commitment0-tells (p .n - p .k) (p .n) salt i _ _ σ σ′
         (s̃-vector p key β (a .s) (a .σ) (a .y))
         (s̃-vector p key β′ (a′ .s) (a′ .σ) (a′ .y))
         (a .σ)
@@ -129,13 +129,13 @@ module _
 
     same-mask : (u ≡ u′) × (e ≡ e′)
     unfolding replyString
-    same-mask = string1-tells (p .n) (p .n) salt i u u′ e e′ (b .u) (b′ .u) (b .e) (b′ .e) tag1
+    same-mask = commitment1-tells (p .n) (p .n) salt i u u′ e e′ (b .u) (b′ .u) (b .e) (b′ .e) tag1
 
     responses : (y ≡ response β u e) × (y′ ≡ response β′ u′ e′)
     unfolding replyResponse
     responses = (
-      string2-tells (p .n) (a .y) (response-vector β (p .n) (b .u) (b .e)) tag2,
-      string2-tells (p .n) (a′ .y) (response-vector β′ (p .n) (b′ .u) (b′ .e)) tag2′,
+      response-tells (p .n) (a .y) (response-vector β (p .n) (b .u) (b .e)) tag2,
+      response-tells (p .n) (a′ .y) (response-vector β′ (p .n) (b′ .u) (b′ .e)) tag2′,
     )
 
     -- so one mask answers both first challenges with one s̃

@@ -16,7 +16,7 @@ use Rattle.packing.proofs.RoundTrip.{length-unpack}
 use Rattle.parameters.specs.declared.Params.{Params}
 use Rattle.sampling.specs.Sampling.{sample, enough, yield}
 use Rattle.sampling.proofs.Kept.{sample-below, length-sample}
-use Rattle.scheme.specs.Strings.{digest, bytesFrom, string10-round}
+use Rattle.scheme.specs.Strings.{digest, bytesFrom, maskExponentsString}
 use Rattle.scheme.specs.Key.{syndromeOf, keyFields, exponentsFrom, exponentsDrawn}
 use Rattle.scheme.specs.Round.{
   maskExponents,
@@ -29,7 +29,7 @@ use Rattle.scheme.specs.Round.{
   replyFields,
   replyChecks,
 }
-use Rattle.scheme.specs.Examine.{examine, examineChecks, examineSizes, examineNumbers, examineRound}
+use Rattle.scheme.specs.VerifyRound.{verifyRound, verifyRoundChecks, verifyRoundSizes, verifyRoundNumbers, verifyRoundReply}
 use Rattle.scheme.specs.Duty.{committed, responded}
 use Rattle.scheme.proofs.OpensStrings.{Vector}
 
@@ -65,11 +65,11 @@ module _ (p : Params) (key salt : List ℕ) (i : ℕ) (c0 c1 : List ℕ) (β : �
     pub commitment : c0 ≡ digest p (committed p key salt i β 0 reply)
     pub hash : h ≡ digest p (responded p salt i β 0 reply)
 
-  pub replied0 : examine p key salt i c0 c1 β h 0 reply ≡ 0 → Replied0
-  unfolding examine examineChecks examineSizes examineNumbers examineRound syndromeOf keyFields replyValues replyExponents
+  pub replied0 : verifyRound p key salt i c0 c1 β h 0 reply ≡ 0 → Replied0
+  unfolding verifyRound verifyRoundChecks verifyRoundSizes verifyRoundNumbers verifyRoundReply syndromeOf keyFields replyValues replyExponents
       replyFields replyChecks
   replied0 e =
-      let checks : List Check = examineChecks p key salt i c0 c1 β h 0 reply in
+      let checks : List Check = verifyRoundChecks p key salt i c0 c1 β h 0 reply in
       let all : Passed checks = passed checks e in
       record {
         small = leb→le β 126 (held 11 checks all);
@@ -87,14 +87,14 @@ module _ (p : Params) (key salt : List ℕ) (i : ℕ) (c0 c1 : List ℕ) (β : �
     pub commitment : c1 ≡ digest p (committed p key salt i β 1 reply)
     pub hash : h ≡ digest p (responded p salt i β 1 reply)
 
-  pub replied1 : examine p key salt i c0 c1 β h 1 reply ≡ 0 → Replied1
-  unfolding examine examineChecks examineSizes examineNumbers examineRound keyFields maskExponents maskValues exponentsFrom exponentsDrawn roundDraws replyChecks
+  pub replied1 : verifyRound p key salt i c0 c1 β h 1 reply ≡ 0 → Replied1
+  unfolding verifyRound verifyRoundChecks verifyRoundSizes verifyRoundNumbers verifyRoundReply keyFields maskExponents maskValues exponentsFrom exponentsDrawn roundDraws replyChecks
   replied1 e =
-      let checks : List Check = examineChecks p key salt i c0 c1 β h 1 reply in
+      let checks : List Check = verifyRoundChecks p key salt i c0 c1 β h 1 reply in
       let all : Passed checks = passed checks e in
       record {
         u = drawn 7 127 (p .n) (maskBlock p reply salt i) (held 15 checks all);
-        e = drawn 3 7 (p .n) (bytesFrom p (string10-round reply salt i) (p .exponents)) (held 14 checks all);
+        e = drawn 3 7 (p .n) (bytesFrom p (maskExponentsString reply salt i) (p .exponents)) (held 14 checks all);
         commitment = same-equal _ _ (held 16 checks all);
         hash = same-equal _ _ (held 17 checks all);
       }

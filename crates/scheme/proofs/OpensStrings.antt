@@ -9,7 +9,7 @@ use lib.Seq.{take-at, drop-at}
 use Rattle.packing.specs.Packing.{pack, size}
 use Rattle.packing.proofs.Below.{Below, below-le}
 use Rattle.packing.proofs.RoundTrip.{length-pack, pack-injective}
-use Rattle.scheme.specs.Strings.{roundNumber, string0, string1, string2}
+use Rattle.scheme.specs.Strings.{roundNumber, commitment0String, commitment1String, responseString}
 
 -- a vector of n places, each below m
 pub record Vector (m n : ℕ) (xs : List ℕ) : Type 0 where
@@ -48,14 +48,14 @@ module _ (m n : ℕ) (salt : List ℕ) (i : ℕ) where
       let values : pack 7 xs ≡ pack 7 xs′ = ap (λ (s : List ℕ). drop 1 s) (both .0) in
       (unpacked 7 127 m (omega arith) v v′ values, unpacked 3 7 n (omega arith) u u′ (both .1))
 
-  pub string0-tells : Tells m n (λ s̃ σ. string0 s̃ σ salt i)
-  unfolding string0
-  string0-tells = tagged 0
+  pub commitment0-tells : Tells m n (λ s̃ σ. commitment0String s̃ σ salt i)
+  unfolding commitment0String
+  commitment0-tells = tagged 0
 
-  pub string1-tells : Tells m n (λ us es. string1 us es salt i)
-  unfolding string1
-  string1-tells = tagged 1
+  pub commitment1-tells : Tells m n (λ us es. commitment1String us es salt i)
+  unfolding commitment1String
+  commitment1-tells = tagged 1
 
-pub string2-tells : (n : ℕ) {ys ys′ : List ℕ} → Vector 127 n ys → Vector 127 n ys′ → string2 ys ≡ string2 ys′ → ys ≡ ys′
-unfolding string2
-string2-tells n v v′ e = unpacked 7 127 n (omega arith) v v′ (ap (λ (s : List ℕ). drop 1 s) e)
+pub response-tells : (n : ℕ) {ys ys′ : List ℕ} → Vector 127 n ys → Vector 127 n ys′ → responseString ys ≡ responseString ys′ → ys ≡ ys′
+unfolding responseString
+response-tells n v v′ e = unpacked 7 127 n (omega arith) v v′ (ap (λ (s : List ℕ). drop 1 s) e)

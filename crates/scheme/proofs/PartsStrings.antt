@@ -13,7 +13,7 @@ use Rattle.parameters.specs.declared.Params.{Params}
 use Rattle.parameters.specs.Sound.{Sound}
 use Rattle.shake.proofs.Output.{length-shake}
 use Rattle.sampling.proofs.Kept.{sample-below, length-sample}
-use Rattle.scheme.specs.Strings.{bytesFrom, digest, string10-round}
+use Rattle.scheme.specs.Strings.{bytesFrom, digest, maskExponentsString}
 use Rattle.scheme.specs.Key.{exponentsFrom, exponentsDrawn}
 use Rattle.scheme.specs.Round.{maskExponents, maskBlock, maskValues, roundDraws}
 
@@ -37,12 +37,12 @@ below-exponents p string = sample-below 3 7 0 (p .n) (bytesFrom p string (p .exp
 module _ (p : Params) (seed salt : List ℕ) (i : ℕ) where
   pub below-mask : Below 7 (maskExponents p seed salt i)
   unfolding maskExponents
-  below-mask = below-exponents p (string10-round seed salt i)
+  below-mask = below-exponents p (maskExponentsString seed salt i)
 
   module _ (drawn : firstRefusal (roundDraws p seed salt i) ≡ 0) where
     pub length-mask : length (maskExponents p seed salt i) ≡ p .n
     unfolding maskExponents roundDraws
-    length-mask = length-exponents p (string10-round seed salt i) (passed (roundDraws p seed salt i) drawn .0)
+    length-mask = length-exponents p (maskExponentsString seed salt i) (passed (roundDraws p seed salt i) drawn .0)
 
     pub length-values : length (maskValues p seed salt i) ≡ p .n
     unfolding maskValues roundDraws

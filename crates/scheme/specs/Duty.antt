@@ -8,12 +8,12 @@ use Prim.Native.Nat.{ℕ}
 use Rattle.outcome.specs.Answer.{firstRefusal}
 use Rattle.parameters.specs.declared.Params.{Params}
 use Rattle.linear.specs.Linear.{powers, syndrome, opened}
-use Rattle.scheme.specs.Strings.{digest, string2}
+use Rattle.scheme.specs.Strings.{digest, responseString}
 use Rattle.scheme.specs.Key.{publicKey, keySize, makeKeyChecks, seedOf, syndromeOf, matrix}
 use Rattle.scheme.specs.Round.{replyExponents, maskExponents, replyString, replyResponse}
 use Rattle.scheme.specs.Sign.{signature, signChecks}
 use Rattle.scheme.specs.Verify.{verify}
-use Rattle.scheme.specs.Examine.{examine}
+use Rattle.scheme.specs.VerifyRound.{verifyRound}
 
 module _ (p : Params) where
   -- First half: whatever signing answers 0 for, the verifier answers 0 for, under the key that the rules give for
@@ -47,7 +47,7 @@ module _ (p : Params) where
   committed key salt i β b reply = replyString p (matrix p (seedOf p key)) (syndromeOf p key) b β reply salt i
 
   abbrev pub responded : List ℕ → ℕ → ℕ → ℕ → List ℕ → List ℕ
-  responded salt i β b reply = string2 (replyResponse p b β reply salt i)
+  responded salt i β b reply = responseString (replyResponse p b β reply salt i)
 
   -- Second half: one key, salt, round and commitment pair; two different first challenges, each with its h(i), which
   -- may be equal; four replies that the examiner passes, one to each second challenge under each first challenge.
@@ -58,10 +58,10 @@ module _ (p : Params) where
   Opens =
       (key salt : List ℕ) (i : ℕ) (c0 c1 : List ℕ) (β β′ : ℕ) (h h′ : List ℕ) (r0 r1 r0′ r1′ : List ℕ) →
       (β ≡ β′ → ⊥) →
-      examine p key salt i c0 c1 β h 0 r0 ≡ 0 →
-      examine p key salt i c0 c1 β h 1 r1 ≡ 0 →
-      examine p key salt i c0 c1 β′ h′ 0 r0′ ≡ 0 →
-      examine p key salt i c0 c1 β′ h′ 1 r1′ ≡ 0 →
+      verifyRound p key salt i c0 c1 β h 0 r0 ≡ 0 →
+      verifyRound p key salt i c0 c1 β h 1 r1 ≡ 0 →
+      verifyRound p key salt i c0 c1 β′ h′ 0 r0′ ≡ 0 →
+      verifyRound p key salt i c0 c1 β′ h′ 1 r1′ ≡ 0 →
       (OpensKey key salt i r0 r1 × OpensKey key salt i r0 r1′ × OpensKey key salt i r0′ r1 × OpensKey key salt i r0′ r1′) ⊎
       (Excuses (committed key salt i β 0 r0) (committed key salt i β′ 0 r0′) ⊎
       (Excuses (committed key salt i β 1 r1) (committed key salt i β′ 1 r1′) ⊎

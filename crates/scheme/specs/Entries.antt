@@ -11,7 +11,7 @@ use Rattle.sampling.specs.Entry.{AnswersSample, AnswersShuffle}
 use Rattle.scheme.specs.Key.{matrixCount, makeKeyChecks, publicKey}
 use Rattle.scheme.specs.Sign.{signChecks, signature}
 use Rattle.scheme.specs.Verify.{verify}
-use Rattle.scheme.specs.Examine.{examine}
+use Rattle.scheme.specs.VerifyRound.{verifyRound}
 
 module _ (p : Params) where
   -- the five draws over a lent block
@@ -46,4 +46,4 @@ module _ (p : Params) where
   -- one round, given its challenges and commitments
   abbrev pub VerifiesRound : (key salt : List ℕ) (i : ℕ) (c0 c1 : List ℕ) (β : ℕ) (h : List ℕ) (b : ℕ) (reply : List ℕ) (r : ℕ)
       → Type 0
-  VerifiesRound key salt i c0 c1 β h b reply r = r ≡ examine p key salt i c0 c1 β h b reply
+  VerifiesRound key salt i c0 c1 β h b reply r = r ≡ verifyRound p key salt i c0 c1 β h b reply

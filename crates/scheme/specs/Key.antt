@@ -5,17 +5,17 @@ use mathlib.Core.List.{List, [], _∷_, _++_}
 use Prim.Native.Nat.{ℕ, _+_, _-_, _*_}
 use lib.Dec.{eqb}
 use lib.ListN.{length, take, drop}
-use Rattle.outcome.specs.Answer.{Check, _unless_, bad-size, short, bad-field}
+use Rattle.outcome.specs.Answer.{Check, _unless_, bad-size, short-draw, bad-field}
 use Rattle.packing.specs.Packing.{pack, unpack, size, allBelow, spareZero}
 use Rattle.parameters.specs.declared.Params.{Params}
 use Rattle.sampling.specs.Sampling.{sample, enough, yield}
 use Rattle.linear.specs.Linear.{powers, syndrome}
-use Rattle.scheme.specs.Strings.{bytesFrom, string10, string12, string13}
+use Rattle.scheme.specs.Strings.{bytesFrom, keyExponentsString, keySeedsString, matrixString}
 
 module _ (p : Params) where
   -- both seeds: twice a digest's bytes; the secret one first
   unfoldable pub keySeeds : List ℕ → List ℕ
-  keySeeds private = bytesFrom p (string12 private) (2 * p .digest)
+  keySeeds private = bytesFrom p (keySeedsString private) (2 * p .digest)
 
   unfoldable pub secretSeed : List ℕ → List ℕ
   secretSeed private = take (p .digest) (keySeeds private)
@@ -28,7 +28,7 @@ module _ (p : Params) where
   matrixCount = (p .n - p .k) * p .k
 
   unfoldable pub matrixBlock : List ℕ → List ℕ
-  matrixBlock public = bytesFrom p (string13 public) (p .matrix)
+  matrixBlock public = bytesFrom p (matrixString public) (p .matrix)
 
   unfoldable pub matrix : List ℕ → List ℕ
   matrix public = sample 7 127 0 matrixCount (matrixBlock public)
@@ -45,7 +45,7 @@ module _ (p : Params) where
 
   -- the key exponents
   unfoldable pub keyExponents : List ℕ → List ℕ
-  keyExponents private = exponentsFrom (string10 (secretSeed private))
+  keyExponents private = exponentsFrom (keyExponentsString (secretSeed private))
 
   -- s: the powers of the key exponents times H transposed
   unfoldable pub keySyndrome : List ℕ → List ℕ
@@ -61,8 +61,8 @@ module _ (p : Params) where
   -- the draws that a key takes
   unfoldable pub keyDraws : List ℕ → List Check
   keyDraws private =
-      short unless matrixDrawn (publicSeed private) ∷
-      short unless exponentsDrawn (string10 (secretSeed private)) ∷
+      short-draw unless matrixDrawn (publicSeed private) ∷
+      short-draw unless exponentsDrawn (keyExponentsString (secretSeed private)) ∷
       []
 
   -- making a key: the private seed, and how many bytes are lent for the key

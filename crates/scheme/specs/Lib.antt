@@ -3,6 +3,6 @@ pub mod Key
 pub mod Round
 pub mod Sign
 pub mod Verify
-pub mod Examine
+pub mod VerifyRound
 pub mod Duty
 pub mod Entries

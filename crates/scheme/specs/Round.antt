@@ -5,21 +5,21 @@ use mathlib.Core.List.{List, [], _∷_}
 use Prim.Native.Nat.{ℕ, _+_, _-_}
 use lib.Dec.{eqb}
 use lib.ListN.{take, drop}
-use Rattle.outcome.specs.Answer.{Check, _unless_, short, bad-field, pick}
+use Rattle.outcome.specs.Answer.{Check, _unless_, short-draw, bad-field, pick}
 use Rattle.packing.specs.Packing.{unpack, size, allBelow, spareZero}
 use Rattle.parameters.specs.declared.Params.{Params}
 use Rattle.sampling.specs.Sampling.{sample, enough, yield}
 use Rattle.linear.specs.Linear.{syndrome, scaled, response, lessTimes}
-use Rattle.scheme.specs.Strings.{bytesFrom, string0, string1, string10-round, string11}
+use Rattle.scheme.specs.Strings.{bytesFrom, commitment0String, commitment1String, maskExponentsString, maskValuesString}
 use Rattle.scheme.specs.Key.{exponentsFrom, exponentsDrawn}
 
 module _ (p : Params) where
   -- e' and u' of a seed, a salt and a round. Document 01 calls both a mask.
   unfoldable pub maskExponents : List ℕ → List ℕ → ℕ → List ℕ
-  maskExponents seed salt i = exponentsFrom p (string10-round seed salt i)
+  maskExponents seed salt i = exponentsFrom p (maskExponentsString seed salt i)
 
   unfoldable pub maskBlock : List ℕ → List ℕ → ℕ → List ℕ
-  maskBlock seed salt i = bytesFrom p (string11 seed salt i) (p .mask)
+  maskBlock seed salt i = bytesFrom p (maskValuesString seed salt i) (p .mask)
 
   unfoldable pub maskValues : List ℕ → List ℕ → ℕ → List ℕ
   maskValues seed salt i = sample 7 127 0 (p .n) (maskBlock seed salt i)
@@ -27,8 +27,8 @@ module _ (p : Params) where
   -- the draws that a round's seed takes
   unfoldable pub roundDraws : List ℕ → List ℕ → ℕ → List Check
   roundDraws seed salt i =
-      short unless exponentsDrawn p (string10-round seed salt i) ∷
-      short unless enough (p .n) (yield 7 127 0 (maskBlock seed salt i)) ∷
+      short-draw unless exponentsDrawn p (maskExponentsString seed salt i) ∷
+      short-draw unless enough (p .n) (yield 7 127 0 (maskBlock seed salt i)) ∷
       []
 
   -- bytes of a packed response y and of a packed transformation σ; of the reply to a second challenge
@@ -70,5 +70,5 @@ module _ (p : Params) where
   -- .. and the string behind the matching commitment: c1(i) under 1, c0(i) under 0
   unfoldable pub replyString : List ℕ → List ℕ → ℕ → ℕ → List ℕ → List ℕ → ℕ → List ℕ
   replyString vs s b β reply salt i =
-      pick (eqb b 1) (string1 (maskValues reply salt i) (maskExponents reply salt i) salt i)
-      (string0 (replySyndrome vs s β reply) (replyExponents reply) salt i)
+      pick (eqb b 1) (commitment1String (maskValues reply salt i) (maskExponents reply salt i) salt i)
+      (commitment0String (replySyndrome vs s β reply) (replyExponents reply) salt i)

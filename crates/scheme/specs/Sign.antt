@@ -6,7 +6,7 @@ use mathlib.Core.List.{List, [], _∷_, _++_}
 use Prim.Native.Nat.{ℕ, _+_, _-_, _*_}
 use lib.Dec.{eqb, leb}
 use lib.ListN.{length, take, drop, getD}
-use Rattle.outcome.specs.Answer.{Check, _unless_, bad-size, short, pick}
+use Rattle.outcome.specs.Answer.{Check, _unless_, bad-size, short-draw, pick}
 use Rattle.outcome.specs.Lists.{flat}
 use Rattle.packing.specs.Packing.{pack}
 use Rattle.parameters.specs.declared.Params.{Params}
@@ -18,13 +18,13 @@ use Rattle.scheme.specs.Strings.{
   digest,
   aggregate,
   joined,
-  string0,
-  string1,
-  string2,
-  string6,
-  string7,
-  string8,
-  string9,
+  commitment0String,
+  commitment1String,
+  responseString,
+  allResponsesString,
+  firstChallengesString,
+  secondChallengeString,
+  roundSeedsString,
 }
 use Rattle.scheme.specs.Key.{publicSeed, matrix, keyExponents, keyDraws}
 use Rattle.scheme.specs.Round.{maskExponents, maskValues, roundDraws, replySize}
@@ -36,7 +36,7 @@ messageMax = 65536
 module _ (p : Params) where
   -- first challenges β from c, salt and message: t of them, 1 to 126
   unfoldable pub firstBlock : List ℕ → List ℕ → List ℕ → List ℕ
-  firstBlock c salt msg = bytesFrom p (string7 c salt msg) (p .first)
+  firstBlock c salt msg = bytesFrom p (firstChallengesString c salt msg) (p .first)
 
   unfoldable pub firstChallenges : List ℕ → List ℕ → List ℕ → List ℕ
   firstChallenges c salt msg = sample 7 126 1 (p .t) (firstBlock c salt msg)
@@ -46,7 +46,7 @@ module _ (p : Params) where
 
   -- second challenges: t of them, w ones
   unfoldable pub secondBlock : List ℕ → List ℕ → List ℕ → List ℕ → List ℕ → List ℕ
-  secondBlock c β h salt msg = bytesFrom p (string8 c β h salt msg) (p .second)
+  secondBlock c β h salt msg = bytesFrom p (secondChallengeString c β h salt msg) (p .second)
 
   unfoldable pub secondChallenges : List ℕ → List ℕ → List ℕ → List ℕ → List ℕ → List ℕ
   secondChallenges c β h salt msg = shuffle (p .t) (p .w) (secondBlock c β h salt msg)
@@ -63,7 +63,7 @@ module _ (p : Params) where
 
   -- the seeds of the rounds, and that of round j
   unfoldable pub roundSeeds : List ℕ → List ℕ → List ℕ
-  roundSeeds master salt = bytesFrom p (string9 master salt) (p .t * p .seed)
+  roundSeeds master salt = bytesFrom p (roundSeedsString master salt) (p .t * p .seed)
 
   unfoldable pub roundSeed : List ℕ → List ℕ → ℕ → List ℕ
   roundSeed master salt j = take (p .seed) (drop (p .seed * j) (roundSeeds master salt))
@@ -77,7 +77,7 @@ module _ (p : Params) where
     u′ j = maskValues p (seed j) salt (j + 1)
 
     unfoldable pub c1 : ℕ → List ℕ
-    c1 j = digest p (string1 (u′ j) (e′ j) salt (j + 1))
+    c1 j = digest p (commitment1String (u′ j) (e′ j) salt (j + 1))
 
     -- the draws: round after round
     unfoldable pub seedDraws : List Check
@@ -89,10 +89,10 @@ module _ (p : Params) where
       y j = response (getD β j 0) (u′ j) (e′ j)
 
       unfoldable pub hᵢ : ℕ → List ℕ
-      hᵢ j = digest p (string2 (y j))
+      hᵢ j = digest p (responseString (y j))
 
       unfoldable pub hOfAll : List ℕ
-      hOfAll = digest p (string6 (flat hᵢ (p .t)))
+      hOfAll = digest p (allResponsesString (flat hᵢ (p .t)))
 
   -- Under the key exponents: σ.
   unfoldable pub σ : (key : List ℕ) (seed : ℕ → List ℕ) (salt : List ℕ) → ℕ → List ℕ
@@ -104,7 +104,7 @@ module _ (p : Params) where
     s̃ j = syndrome (p .k) vs (scaled (σ key seed salt j) (u′ seed salt j))
 
     unfoldable pub c0 : ℕ → List ℕ
-    c0 j = digest p (string0 (s̃ j) (σ key seed salt j) salt (j + 1))
+    c0 j = digest p (commitment0String (s̃ j) (σ key seed salt j) salt (j + 1))
 
     unfoldable pub c0OfAll : List ℕ
     c0OfAll = aggregate p (flat c0 (p .t))
@@ -131,7 +131,7 @@ module _ (p : Params) where
 
       -- the draws: the first, then the second challenges
       unfoldable pub challengeDraws : List Check
-      challengeDraws = short unless firstDrawn c salt msg ∷ short unless secondDrawn c β h salt msg ∷ []
+      challengeDraws = short-draw unless firstDrawn c salt msg ∷ short-draw unless secondDrawn c β h salt msg ∷ []
 
   -- The signature under V and the key exponents, for any seeds of the rounds: salt, c, h, then the parts.
   module _ (vs key : List ℕ) (seed : ℕ → List ℕ) (salt msg : List ℕ) where

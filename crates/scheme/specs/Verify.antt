@@ -4,10 +4,10 @@ use mathlib.Core.List.{List, [], _∷_, _++_}
 use Prim.Native.Nat.{ℕ, _+_, _-_, _*_}
 use lib.Dec.{eqb, leb}
 use lib.ListN.{length, take, drop, getD}
-use Rattle.outcome.specs.Answer.{Check, _unless_, bad-size, short, differs, pick, firstRefusal}
+use Rattle.outcome.specs.Answer.{Check, _unless_, bad-size, short-draw, mismatch, pick, firstRefusal}
 use Rattle.outcome.specs.Lists.{flat, total, same}
 use Rattle.parameters.specs.declared.Params.{Params}
-use Rattle.scheme.specs.Strings.{digest, aggregate, joined, string2, string6}
+use Rattle.scheme.specs.Strings.{digest, aggregate, joined, responseString, allResponsesString}
 use Rattle.scheme.specs.Key.{keySize, seedOf, syndromeOf, keyFields, matrix, matrixDrawn}
 use Rattle.scheme.specs.Round.{replySize, replyChecks, replyString, replyResponse}
 use Rattle.scheme.specs.Sign.{
@@ -44,7 +44,7 @@ module _ (p : Params) where
     c1In = pick (eqb b 1) givenIn broughtIn
 
     unfoldable pub hIn : List ℕ
-    hIn = digest p (string2 (replyResponse p b β replyIn salt i))
+    hIn = digest p (responseString (replyResponse p b β replyIn salt i))
 
   -- where part j begins among the rounds under the second challenges b
   abbrev pub offset : List ℕ → ℕ → ℕ
@@ -70,8 +70,8 @@ module _ (p : Params) where
   -- c and h compared with what an aggregate of the c0(i), all c1(i) and all h(i) give
   unfoldable pub differences : (c h root c1s hs : List ℕ) → List Check
   differences c h root c1s hs =
-      differs unless same c (joined p root c1s) ∷
-      differs unless same h (digest p (string6 hs)) ∷
+      mismatch unless same c (joined p root c1s) ∷
+      mismatch unless same h (digest p (allResponsesString hs)) ∷
       []
 
   -- Over the pieces of a signature, under V and s of the key: both draws, the rounds upward, then c and h.
@@ -91,8 +91,8 @@ module _ (p : Params) where
 
     unfoldable pub pieceChecks : List Check
     pieceChecks =
-        short unless firstDrawn p c salt msg ∷
-        short unless secondDrawn p c β h salt msg ∷
+        short-draw unless firstDrawn p c salt msg ∷
+        short-draw unless secondDrawn p c β h salt msg ∷
         roundsChecks
 
   -- the pieces of a signature: salt, c, h, rounds
@@ -120,7 +120,7 @@ module _ (p : Params) where
   verifyChecks key msg sig =
       verifySizes (length key) (length msg) (length sig) ++
       (keyFields p key ++
-      (short unless matrixDrawn p (seedOf p key) ∷
+      (short-draw unless matrixDrawn p (seedOf p key) ∷
       pieceChecks (matrix p (seedOf p key)) (syndromeOf p key) (saltOf sig) (cOf sig) (hOf sig) (roundsOf sig) msg))
 
   -- the verifier's answer

@@ -14,7 +14,7 @@ use Rattle.keccak.specs.Keccak.{keccakF}
 use Rattle.keccak.proofs.Laws.{length-keccakF}
 use Rattle.shake.specs.declared.Sponge.{Sponge}
 use Rattle.shake.specs.Shake.{lanesOf, xorLanes, absorbBlocks, padding, padded, absorbed}
-use Rattle.shake.specs.Fold.{sponge, xorByte, xorBytes, turned, absorbByte, absorbBytes, fresh, Bytes}
+use Rattle.shake.specs.InnerFold.{sponge, xorByte, xorBytes, turned, absorbByte, absorbBytes, fresh, Bytes}
 use Rattle.shake.proofs.Xor.{xor-assoc}
 use Rattle.shake.proofs.Lanes.{xorBytes-append, xorBytes-zeros, bytes-append, cut, length-cut, length-xorByte, xorBytes-block, bytes-take, bytes-drop}
 
@@ -94,7 +94,7 @@ pub record Kept (s : Sponge) (rate : ℕ) : Type 0 where
 pub turned-at : (s : List ℕ) (at rate : ℕ) → at ≤ rate → turned s at rate .at ≡ at % rate
 turned-at s at rate h =
     ⊎-elim
-    (λ (full : at ≡ rate). rw (turned-full s at rate full) (sym (ap (λ (n : ℕ). n % rate) full ∙ mod-self rate)))
+    (λ (store-full : at ≡ rate). rw (turned-full s at rate store-full) (sym (ap (λ (n : ℕ). n % rate) store-full ∙ mod-self rate)))
     (λ (less : at < rate). rw (turned-room s at rate less) (sym (mod-eq-of-lt less)))
     (eq-or-lt-of-le h)
 
@@ -102,7 +102,7 @@ turned-kept : (s : List ℕ) (at rate : ℕ) → length s ≡ 25 → at ≤ rate
     → Kept (turned s at rate) rate
 turned-kept s at rate e h some =
     ⊎-elim
-    (λ (full : at ≡ rate). rw (turned-full s at rate full) (record { same = refl; lanes = length-keccakF s; room = some }))
+    (λ (store-full : at ≡ rate). rw (turned-full s at rate store-full) (record { same = refl; lanes = length-keccakF s; room = some }))
     (λ (less : at < rate). rw (turned-room s at rate less) (record { same = refl; lanes = e; room = less }))
     (eq-or-lt-of-le h)
 

@@ -10,7 +10,7 @@ use Rattle.outcome.specs.Answer.{pick}
 use Rattle.keccak.specs.Keccak.{keccakF}
 use Rattle.shake.specs.declared.Sponge.{Sponge}
 use Rattle.shake.specs.Shake.{squeezed, shake}
-use Rattle.shake.specs.Fold.{sponge, xorByte, turned, absorbByte, absorbBytes, fresh, Bytes, Rate, Ready, Holds, Absorbs, Squeezes}
+use Rattle.shake.specs.InnerFold.{sponge, xorByte, turned, absorbByte, absorbBytes, fresh, Bytes, Rate, Ready, Holds, Absorbs, Squeezes}
 use Rattle.shake.proofs.Lanes.{bytes-append}
 use Rattle.shake.proofs.Blocks.{absorbBytes-append, turned-room, absorbed-fold}
 

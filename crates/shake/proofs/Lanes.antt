@@ -12,7 +12,7 @@ use lib.Arith.{digits-lt}
 use lib.Pow.{pow-add, pow-pos, shl-exact}
 use lib.Bits.{bitXor, bitOr, or-shifted-r, xor-zero-r, xor-comm, xor-shifted}
 use Rattle.shake.specs.Shake.{little, lanesOf, xorLanes}
-use Rattle.shake.specs.Fold.{xorByte, xorBytes, Bytes}
+use Rattle.shake.specs.InnerFold.{xorByte, xorBytes, Bytes}
 use Rattle.shake.proofs.Xor.{xor-assoc}
 
 pub length-xorByte : (s : List ℕ) (i b : ℕ) → length (xorByte s i b) ≡ length s

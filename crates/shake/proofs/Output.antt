@@ -12,7 +12,7 @@ use borrow.Rule.Slice.PartMut.{midOf, postOf, putMid}
 use Rattle.keccak.specs.Keccak.{keccakF}
 use Rattle.keccak.proofs.Laws.{length-keccakF}
 use Rattle.shake.specs.Shake.{lowBytes, bytesOf, absorbBlocks, squeezeBlocks, squeezed, absorbed, shake, shake128, lanesOf, xorLanes, padded}
-use Rattle.shake.specs.Fold.{Bytes}
+use Rattle.shake.specs.InnerFold.{Bytes}
 use Rattle.shake.proofs.Lanes.{bytes-take, bytes-append}
 
 pub length-lowBytes : (n x : ℕ) → length (lowBytes n x) ≡ n

@@ -1,2 +1,2 @@
 pub mod Shake
-pub mod Fold
+pub mod InnerFold

@@ -5,7 +5,7 @@ ghost use Prim.Native.Nat.{_+_, _-_, _*_, _%_, _<_, _≤_};
 ghost use lib.ListN.{length, take};
 ghost use Rattle.keccak.specs.Keccak.{keccakF};
 ghost use Rattle.shake.specs.Shake.{little, lowBytes, bytesOf, squeezed, shake, shake128 as shake128Of};
-ghost use Rattle.shake.specs.Fold.{sponge as spongeOf, xorByte, xorBytes, turned, absorbBytes, Rate, Ready, Holds, Absorbs, Squeezes};
+ghost use Rattle.shake.specs.InnerFold.{sponge as spongeOf, xorByte, xorBytes, turned, absorbBytes, Rate, Ready, Holds, Absorbs, Squeezes};
 
 // The state, the place of the next byte in the block, and the size of a block in bytes.
 pub struct Sponge {

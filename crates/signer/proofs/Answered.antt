@@ -11,7 +11,7 @@ use Rattle.parameters.specs.declared.Params.{Params}
 use Rattle.scheme.specs.Key.{publicSeed, matrix, keyExponents, keyDraws}
 use Rattle.scheme.specs.Sign.{signatureSize, roundSeed, signSizes, signature, signChecks}
 use Rattle.scheme.proofs.Keyed.{drawsOf}
-use Rattle.signer.specs.State.{SignedWith}
+use Rattle.signer.specs.InnerState.{SignedWith}
 
 -- checks that refuse decide, whatever stands behind them
 refused-whole : (xs ys : List Check) → (firstRefusal xs ≡ 0 → ⊥) → firstRefusal (xs ++ ys) ≡ firstRefusal xs

@@ -8,17 +8,17 @@ use native.Mathlib.Omega.{arith}
 use lib.Dec.{eqb}
 use lib.ListN.{length, take, drop, getD, length-append}
 use lib.Seq.{take-at, drop-at, take-all}
-use Rattle.outcome.specs.Answer.{Check, _unless_, short, firstRefusal, pick}
+use Rattle.outcome.specs.Answer.{Check, _unless_, short-draw, firstRefusal, pick}
 use Rattle.outcome.specs.Lists.{flat, total}
 use Rattle.outcome.proofs.Checks.{fails, holds, passed-front, refused-front}
 use Rattle.outcome.proofs.Lists.{flat-ext, flat-part, length-flat, flat-passed}
 use Rattle.packing.specs.Packing.{pack}
-use Rattle.packing.specs.Vector.{Vector}
+use Rattle.packing.specs.InnerVector.{Vector}
 use Rattle.parameters.specs.declared.Params.{Params}
 use Rattle.parameters.specs.Sound.{Sound}
 use Rattle.linear.specs.Linear.{response, transformation}
 use Rattle.linear.proofs.Kept.{kept-below}
-use Rattle.scheme.specs.Strings.{digest, string2, string6, aggregate, joined}
+use Rattle.scheme.specs.Strings.{digest, responseString, allResponsesString, aggregate, joined}
 use Rattle.scheme.specs.Round.{roundDraws}
 use Rattle.scheme.specs.Sign.{
   firstChallenges,
@@ -34,7 +34,7 @@ use Rattle.scheme.specs.Sign.{
 }
 use Rattle.scheme.specs.Sign as sign
 use Rattle.scheme.proofs.PartsStrings.{length-digest, below-mask, length-mask, length-values}
-use Rattle.signer.specs.State.{
+use Rattle.signer.specs.InnerState.{
   stateSize,
   seedAt,
   stateAt,
@@ -164,9 +164,9 @@ module _ (p : Params) (sound : Sound p) (vs key : List ℕ) (seed : ℕ → List
     h-is : (β : List ℕ) → hOf p states β ≡ sign.hOfAll p seed salt β
     unfolding hOf hAt responseOf sign.hOfAll sign.hᵢ sign.y
     h-is β =
-        ap (λ (all : List ℕ). digest p (string6 all))
+        ap (λ (all : List ℕ). digest p (allResponsesString all))
         (flat-ext (hAt p states β) (sign.hᵢ p seed salt β) (p .t)
-        (λ j l. λ i. digest p (string2 (response (getD β j 0) (row j l .first i) (row j l .second i)))))
+        (λ j l. λ i. digest p (responseString (response (getD β j 0) (row j l .first i) (row j l .second i)))))
 
     parts-are : (seeds β b : List ℕ) → ((j : ℕ) → seedAt p seeds j ≡ seed j) →
         flat (partAt p states β key seeds b) (p .t) ≡ flat (sign.part p vs key seed salt β b) (p .t)
@@ -193,7 +193,7 @@ module _ (p : Params) (vs key seeds salt msg : List ℕ) where
 
   abbrev secondDraw : List Check
   secondDraw =
-      short unless
+      short-draw unless
       secondDrawn p (sign.c p seedⱼ salt root) (sign.β p seedⱼ salt root msg) (sign.h p seedⱼ salt root msg) salt msg ∷
       []
 
@@ -213,7 +213,7 @@ module _ (p : Params) (vs key seeds salt msg : List ℕ) where
       unfolding signDraws challengeDraws
       first-short e =
           passed-front (seedDraws p seedⱼ salt) challenges drawn
-          ∙ fails short (firstDrawn p (sign.c p seedⱼ salt root) salt msg) secondDraw (first-same ∙ e)
+          ∙ fails short-draw (firstDrawn p (sign.c p seedⱼ salt root) salt msg) secondDraw (first-same ∙ e)
 
       pub replied : Sound p → {states β old new : List ℕ} {r : ℕ} →
           states ≡ flat (roundState p vs key seedⱼ salt) (p .t) →
@@ -235,9 +235,9 @@ module _ (p : Params) (vs key seeds salt msg : List ℕ) where
           record {
             answer =
                 answers .answer
-                ∙ (λ i. firstRefusal (short unless secondDrawn p (c-same i) (β-same i) (h-same i) salt msg ∷ []))
+                ∙ (λ i. firstRefusal (short-draw unless secondDrawn p (c-same i) (β-same i) (h-same i) salt msg ∷ []))
                 ∙ sym (passed-front (seedDraws p seedⱼ salt) challenges drawn
-                ∙ holds short (firstDrawn p (sign.c p seedⱼ salt root) salt msg) secondDraw (first-same ∙ suffices));
+                ∙ holds short-draw (firstDrawn p (sign.c p seedⱼ salt root) salt msg) secondDraw (first-same ∙ suffices));
             content = answers .content ∙ (λ i. pick (eqb r 0) (salt ++ c-same i ++ h-same i ++ parts-same i) old);
           }
 

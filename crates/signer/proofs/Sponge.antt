@@ -3,7 +3,7 @@ use mathlib.Core.Path.{_≡_, sym, subst}
 use mathlib.Core.List.{List, [], _++_, append-assoc, append-nil}
 use Prim.Native.Nat.{ℕ}
 use Rattle.shake.specs.declared.Sponge.{Sponge}
-use Rattle.shake.specs.Fold.{Rate, Ready, Holds, Absorbs}
+use Rattle.shake.specs.InnerFold.{Rate, Ready, Holds, Absorbs}
 use Rattle.parameters.specs.declared.Params.{Params}
 use Rattle.parameters.specs.Sound.{Sound}
 

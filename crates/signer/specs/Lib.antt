@@ -1,2 +1,2 @@
-pub mod State
-pub mod Scratch
+pub mod InnerState
+pub mod InnerScratch

@@ -6,6 +6,7 @@ use parameters::PACKED_EXPONENTS;
 use parameters::PACKED_VALUES;
 use parameters::PLACES;
 use parameters::Params;
+use scheme::tag;
 use shake::Sponge;
 ghost use mathlib.Core.Path.{_≡_};
 ghost use mathlib.Core.List.{_∷_, _++_};
@@ -14,16 +15,16 @@ ghost use lib.Dec.{T};
 ghost use lib.ListN.{length};
 ghost use Rattle.outcome.specs.Lists.{flat};
 ghost use Rattle.parameters.specs.Sound.{Sound};
-ghost use Rattle.shake.specs.Fold.{Rate, Ready, Absorbs};
+ghost use Rattle.shake.specs.InnerFold.{Rate, Ready, Absorbs};
 ghost use Rattle.shake.specs.Shake.{shake};
 ghost use Rattle.packing.specs.Packing.{allBelow, pack, digits};
 ghost use Rattle.scheme.specs.Strings.{digest, aggregate, joined};
 ghost use Rattle.scheme.specs.Key.{matrixCount};
 ghost use Rattle.scheme.specs.Round.{roundDraws};
 ghost use Rattle.scheme.specs.Sign.{seedDraws};
-ghost use Rattle.packing.specs.Vector.{Vector};
-ghost use Rattle.signer.specs.State.{stateSize, seedAt, syndromeString, stateFrom, roundState, Drawn};
-ghost use Rattle.signer.specs.State.{c0s, c1s, columnOf};
+ghost use Rattle.packing.specs.InnerVector.{Vector};
+ghost use Rattle.signer.specs.InnerState.{stateSize, seedAt, syndromeString, stateFrom, roundState, Drawn};
+ghost use Rattle.signer.specs.InnerState.{c0s, c1s, columnOf};
 
 // A commitment of round i: values and exponents are packed where the string needs them.
 fn commit(rate: usize, tag: u8, xs: &[u8], es: &[u8], salt: &[u8], i: usize, out: &mut [u8])
@@ -67,7 +68,15 @@ fn commit_syndrome(
     linear::transform(key, es, &mut sigma[..n]);
     linear::scale(&sigma[..n], us, &mut x[..n]);
     linear::syndrome(k, vs, &x[..n], &mut s[..rows]);
-    commit(p.rate, 0, &s[..rows], &sigma[..n], salt, i, out);
+    commit(
+        p.rate,
+        tag::COMMITMENT_0,
+        &s[..rows],
+        &sigma[..n],
+        salt,
+        i,
+        out,
+    );
 }
 
 // The state of round i from its masks.
@@ -92,7 +101,15 @@ fn write_state(
     buffers::copy(&mut state[..n], us);
     buffers::copy(&mut state[n..both], es);
     commit_syndrome(p, vs, key, us, es, salt, i, &mut state[both..last]);
-    commit(p.rate, 1, us, es, salt, i, &mut state[last..]);
+    commit(
+        p.rate,
+        tag::COMMITMENT_1,
+        us,
+        es,
+        salt,
+        i,
+        &mut state[last..],
+    );
 }
 
 // The state of round j from its seed; false where a mask is short.
@@ -217,7 +234,7 @@ pub fn aggregate_states(p: Params, states: &[u8], root: &mut [u8])
         offset: 2 * p.n,
         width: p.digest,
     };
-    hash_column(p.rate, 3, states, column, root);
+    hash_column(p.rate, tag::ALL_COMMITMENTS_0, states, column, root);
 }
 
 // c from an aggregate of the c0(i) and all c1(i).
@@ -233,6 +250,6 @@ pub fn join_states(p: Params, root: &[u8], states: &[u8], c: &mut [u8])
         width: d,
     };
     let mut c1 = [0u8; DIGEST];
-    hash_column(p.rate, 4, states, column, &mut c1[..d]);
-    hashing::hash2(p.rate, 5, root, &c1[..d], c);
+    hash_column(p.rate, tag::ALL_COMMITMENTS_1, states, column, &mut c1[..d]);
+    hashing::hash2(p.rate, tag::COMMITMENTS, root, &c1[..d], c);
 }

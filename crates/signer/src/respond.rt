@@ -5,17 +5,18 @@ use parameters::DIGEST;
 use parameters::PACKED_VALUES;
 use parameters::PLACES;
 use parameters::Params;
+use scheme::tag;
 use shake::Sponge;
 ghost use mathlib.Core.Path.{_≡_};
 ghost use Prim.Native.Nat.{_<_};
 ghost use lib.ListN.{length};
 ghost use Rattle.parameters.specs.Sound.{Sound};
-ghost use Rattle.shake.specs.Fold.{Ready, Absorbs};
+ghost use Rattle.shake.specs.InnerFold.{Ready, Absorbs};
 ghost use Rattle.packing.specs.Packing.{pack};
-ghost use Rattle.scheme.specs.Strings.{digest, string2};
+ghost use Rattle.scheme.specs.Strings.{digest, responseString};
 ghost use Rattle.scheme.specs.Round.{valuesSize};
-ghost use Rattle.packing.specs.Vector.{Vector};
-ghost use Rattle.signer.specs.State.{State, States, responseOf, hOf};
+ghost use Rattle.packing.specs.InnerVector.{Vector};
+ghost use Rattle.signer.specs.InnerState.{State, States, responseOf, hOf};
 
 // y of a round, packed.
 pub fn pack_response(p: Params, beta: Value, state: &[u8], out: &mut [u8])
@@ -32,14 +33,14 @@ pub fn pack_response(p: Params, beta: Value, state: &[u8], out: &mut [u8])
 // h(i) of a round goes in.
 fn absorb_response(p: Params, sponge: Sponge, beta: Value, state: &[u8]) -> Sponge
     requires { ⌜ Sound p × Ready sponge × (beta .0 < 127) × State p (now state) ⌝ }
-    ensures { λ r. ⌜ Absorbs sponge (digest p (string2 (responseOf p (beta .0) (now (state .entry))))) r ⌝ }
+    ensures { λ r. ⌜ Absorbs sponge (digest p (responseString (responseOf p (beta .0) (now (state .entry))))) r ⌝ }
 {
     let d = p.digest;
     let size = packing::packed_size(p.n, 7);
     let mut packed = [0u8; PACKED_VALUES];
     let mut hashed = [0u8; DIGEST];
     pack_response(p, beta, state, &mut packed[..size]);
-    hashing::hash1(p.rate, 2, &packed[..size], &mut hashed[..d]);
+    hashing::hash1(p.rate, tag::RESPONSE, &packed[..size], &mut hashed[..d]);
     shake::absorb(sponge, &hashed[..d])
 }
 
@@ -50,7 +51,7 @@ pub fn respond_all(p: Params, states: &[u8], betas: &[u8], h: &mut [u8])
 {
     let t = p.t;
     let size = sizes::state_size(p);
-    let mut s = hashing::tagged(p.rate, 6);
+    let mut s = hashing::tagged(p.rate, tag::ALL_RESPONSES);
     let mut at = 0;
     let mut j = 0;
     while j < t {

@@ -3,12 +3,14 @@ use crate::commit;
 use crate::respond;
 use crate::sizes;
 use crate::write;
+use outcome::SHORT_DRAW;
 use parameters::DIGEST;
 use parameters::DRAWN_PLACES;
 use parameters::DRAWN_ROUNDS;
 use parameters::Params;
 use parameters::ROUNDS;
 use parameters::TWO_DIGESTS;
+use scheme::tag;
 ghost use mathlib.Core.Path.{_≡_};
 ghost use Prim.Native.Nat.{_*_};
 ghost use lib.ListN.{length};
@@ -16,9 +18,9 @@ ghost use Rattle.parameters.specs.Sound.{Sound};
 ghost use Rattle.scheme.specs.Key.{matrixCount};
 ghost use Rattle.scheme.specs.Sign.{signatureSize, roundSeed};
 ghost use Rattle.scheme.specs.Entries.{Signs};
-ghost use Rattle.packing.specs.Vector.{Vector};
-ghost use Rattle.signer.specs.State.{stateSize, Challenged, Replied, SignedWith};
-ghost use Rattle.signer.specs.Scratch.{SignScratch};
+ghost use Rattle.packing.specs.InnerVector.{Vector};
+ghost use Rattle.signer.specs.InnerState.{stateSize, Challenged, Replied, SignedWith};
+ghost use Rattle.signer.specs.InnerScratch.{SignScratch};
 
 // From c and the first challenges on: h, the second challenges, and the signature.
 fn reply(
@@ -44,7 +46,7 @@ fn reply(
     let mut bs = [0u8; ROUNDS];
     respond::respond_all(p, states, betas, &mut h[..d]);
     if !expand::second_challenges(p, c, betas, &h[..d], salt, msg, &mut bs[..t]) {
-        return 2;
+        return SHORT_DRAW;
     }
     write::write_signature(
         p,
@@ -86,14 +88,14 @@ fn sign_with(
     let mut root = [0u8; DIGEST];
     let mut c = [0u8; DIGEST];
     let mut betas = [0u8; DRAWN_ROUNDS];
-    hashing::hash2(p.rate, 9, master, salt, seeds);
+    hashing::hash2(p.rate, tag::ROUND_SEEDS, master, salt, seeds);
     if !commit::commit_all(p, vs, key, seeds, salt, states) {
-        return 2;
+        return SHORT_DRAW;
     }
     commit::aggregate_states(p, states, &mut root[..d]);
     commit::join_states(p, &root[..d], states, &mut c[..d]);
     if !expand::first_challenges(p, &c[..d], salt, msg, &mut betas) {
-        return 2;
+        return SHORT_DRAW;
     }
     reply(p, key, seeds, states, &c[..d], &betas[..t], salt, msg, sig)
 }
@@ -125,7 +127,7 @@ pub fn sign(
     let mut both_seeds = [0u8; TWO_DIGESTS];
     let mut key = [0u8; DRAWN_PLACES];
     if !keygen::material(p, private, &mut both_seeds[..both], block, vs, &mut key) {
-        return 2;
+        return SHORT_DRAW;
     }
     sign_with(
         p,

@@ -1,10 +1,11 @@
 // Sizes: that of a round's state, and those that signing tests first.
+use outcome::BAD_SIZE;
 use parameters::Params;
 ghost use mathlib.Core.Path.{_≡_};
 ghost use Rattle.outcome.specs.Answer.{firstRefusal};
 ghost use Rattle.parameters.specs.Sound.{Sound};
 ghost use Rattle.scheme.specs.Sign.{signSizes};
-ghost use Rattle.signer.specs.State.{stateSize};
+ghost use Rattle.signer.specs.InnerState.{stateSize};
 
 // Bytes of the state of a round: two vectors and two digests.
 pub fn state_size(p: Params) -> usize
@@ -29,19 +30,19 @@ pub fn check_sizes(
 {
     let d = p.digest;
     if private.len() != d {
-        return 1;
+        return BAD_SIZE;
     }
     if master.len() != p.seed {
-        return 1;
+        return BAD_SIZE;
     }
     if salt.len() != d {
-        return 1;
+        return BAD_SIZE;
     }
     if scheme::MESSAGE_MAX < msg.len() {
-        return 1;
+        return BAD_SIZE;
     }
     if lent != scheme::signature_size(p) {
-        return 1;
+        return BAD_SIZE;
     }
     0
 }

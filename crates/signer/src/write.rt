@@ -14,8 +14,8 @@ ghost use Rattle.packing.specs.Packing.{pack};
 ghost use Rattle.linear.specs.Linear.{transformation};
 ghost use Rattle.scheme.specs.Sign.{partSize};
 ghost use Rattle.scheme.specs.Verify.{offset};
-ghost use Rattle.packing.specs.Vector.{Vector};
-ghost use Rattle.signer.specs.State.{State, Challenged, exponentsOf, c0Of, c1Of, responseOf, partOf, partAt};
+ghost use Rattle.packing.specs.InnerVector.{Vector};
+ghost use Rattle.signer.specs.InnerState.{State, Challenged, exponentsOf, c0Of, c1Of, responseOf, partOf, partAt};
 
 // Under 1: the seed, and c0(i).
 fn write_seed(p: Params, seed: &[u8], state: &[u8], part: &mut [u8])

@@ -6,14 +6,14 @@ use Prim.Native.Nat.{ℕ, _≤_, _<_}
 use native.Mathlib.Omega.{arith}
 use lib.ListN.{length}
 use borrow.Author.Tests.{eq-eqb, ne-eqb}
-use Rattle.outcome.specs.Answer.{nothing-stored, bad-device, Check, firstRefusal, pick, AnswersFront}
+use Rattle.outcome.specs.Answer.{not-stored, bad-device, Check, firstRefusal, pick, AnswersFront}
 use Rattle.outcome.specs.Result.{Result, done, refused, numberIn}
 use Rattle.outcome.proofs.Checks.{refused as one-refused}
 use Rattle.profile.specs.declared.Profile.{Profile}
 use Rattle.profile.specs.Rules.{Class}
 use Rattle.profile.specs.Line.{longest, writeChecks}
 use Rattle.image.specs.Image.{profileOf}
-use Rattle.image.specs.Entries.{PutsLine}
+use Rattle.image.specs.Entries.{WritesProfileLine}
 use Rattle.image.proofs.EntryLaws.{answers-as}
 use Rattle.store.specs.declared.Device.{Device}
 use Rattle.store.specs.Keys.{keyOf, deviceKey, sameKey, deviceOf, deviceOk}
@@ -43,8 +43,8 @@ module _ (table : List Class) (d : Device) (ps : List Profile) where
   unfolding lookupIn
   lookup-found e p f = rw (e, f)
 
-  pub lookup-nothing : deviceOk table d ≡ true → find (deviceKey d) ps ≡ refused nothing-stored
-      → lookupIn table d ps ≡ refused nothing-stored
+  pub lookup-nothing : deviceOk table d ≡ true → find (deviceKey d) ps ≡ refused not-stored
+      → lookupIn table d ps ≡ refused not-stored
   unfolding lookupIn
   lookup-nothing e f = rw (e, f)
 
@@ -54,7 +54,7 @@ module _ (table : List Class) (d : Device) (ps : List Profile) where
   lookup-number = go (deviceOk table d) (find (deviceKey d) ps)
     where
       go : (ok : Bool) (r : Result Profile)
-          → numberIn (pick ok (pick (isDone r) r (refused nothing-stored)) (refused bad-device))
+          → numberIn (pick ok (pick (isDone r) r (refused not-stored)) (refused bad-device))
           ≡ pick ok (pick (isDone r) 0 9) 10
       go true (done p) = refl
       go true (refused r) = refl
@@ -73,7 +73,7 @@ module _ (table : List Class) (d : Device) (p : Profile) (ps qs : List Profile) 
 
 -- nothing is found in the empty store
 pub lookup-empty : (table : List Class) (d : Device) → deviceOk table d ≡ true
-    → lookupIn table d [] ≡ refused nothing-stored
+    → lookupIn table d [] ≡ refused not-stored
 unfolding find
 lookup-empty table d e = lookup-nothing table d [] e refl
 
@@ -84,7 +84,7 @@ unfolding lookupIn
 lookup-find table d ps p e = go (deviceOk table d) (find (deviceKey d) ps) e
   where
     go : (ok : Bool) (r : Result Profile)
-        → pick ok (pick (isDone r) r (refused nothing-stored)) (refused bad-device) ≡ done p → r ≡ done p
+        → pick ok (pick (isDone r) r (refused not-stored)) (refused bad-device) ≡ done p → r ≡ done p
     go true (done q) e = e
     go true (refused r) e = let z : _≡_ {A = ℕ} 0 1 = cc in absurd (omega arith)
     go false r e = let z : _≡_ {A = ℕ} 0 1 = cc in absurd (omega arith)
@@ -95,7 +95,7 @@ module _ (table : List Class) (image : List ℕ) (d : Device) (i : ℕ) (ok : de
   pub found-here : i < capacity → done (profileOf (slotBytes i image)) ≡ lookupIn table d (stored image)
   found-here h = sym (lookup-found table d (stored image) ok _ (held (deviceKey d) image i first h))
 
-  pub found-none : capacity ≤ i → refused nothing-stored ≡ lookupIn table d (stored image)
+  pub found-none : capacity ≤ i → refused not-stored ≡ lookupIn table d (stored image)
   found-none h = sym (lookup-nothing table d (stored image) ok (held-none (deviceKey d) image i first h))
 
 -- ---- the answer, by the first check that fails
@@ -127,7 +127,7 @@ module _ (table : List Class) (image country old : List ℕ) (class before : ℕ
             record { answers = one-refused 0 first refl; size = refl }
 
         module _ (room : length old ≡ longest) where
-          pub lookup-none : refused nothing-stored ≡ foundIn table image country class
+          pub lookup-none : refused not-stored ≡ foundIn table image country class
               → LooksUp table image country class old before 9 old before
           lookup-none none =
               let first : firstRefusal (lookupLineChecks table image country class old) ≡ 9 =
@@ -136,7 +136,7 @@ module _ (table : List Class) (image country old : List ℕ) (class before : ℕ
               record { answers = one-refused 8 first refl; size = refl }
 
           pub lookup-line : (p : Profile) {k after : ℕ} {new : List ℕ} → done p ≡ foundIn table image country class
-              → PutsLine table p old before k new after → LooksUp table image country class old before k new after
+              → WritesProfileLine table p old before k new after → LooksUp table image country class old before k new after
           lookup-line p {k} {after} {new} found puts =
               let checks : List Check = lookupLineChecks table image country class old in
               let same : firstRefusal (writeChecks table p old) ≡ firstRefusal checks =

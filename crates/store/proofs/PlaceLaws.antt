@@ -7,7 +7,7 @@ use native.Mathlib.Omega.{arith}
 use borrow.Rule.Slice.PartMut.{putMid}
 use lib.ListN.{length, getD, take, drop, set, length-drop}
 use lib.Seq.{length-take-le, take-at, drop-at, drop-drop, take-add}
-use Rattle.outcome.specs.Answer.{nothing-stored}
+use Rattle.outcome.specs.Answer.{not-stored}
 use Rattle.outcome.specs.Result.{done, refused}
 use Rattle.profile.specs.declared.Profile.{Profile}
 use Rattle.image.specs.Image.{profileSize, profileOf, imageOf, ProfileWritten}
@@ -93,7 +93,7 @@ module _ (k : Key) (image : List ℕ) (i : ℕ) (first : i ≡ firstSlot (holdin
   pub held-nowhere : capacity ≤ i → isStored k (stored image) ≡ false
   held-nowhere h = let size = slots-length capacity image in found-nowhere k (slotsOf capacity image) (omega arith)
 
-  pub held-none : capacity ≤ i → find k (stored image) ≡ refused nothing-stored
+  pub held-none : capacity ≤ i → find k (stored image) ≡ refused not-stored
   held-none h = find-none k (stored image) (held-nowhere h)
 
 -- ---- writing

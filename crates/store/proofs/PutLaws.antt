@@ -7,7 +7,7 @@ use native.Mathlib.Omega.{arith}
 use lib.Dec.{ltb}
 use lib.ListN.{length}
 use borrow.Author.Tests.{lt-ltb, le-ltb}
-use Rattle.outcome.specs.Answer.{full, nothing-stored, _unless_, firstRefusal, pick}
+use Rattle.outcome.specs.Answer.{store-full, not-stored, _unless_, firstRefusal, pick}
 use Rattle.outcome.specs.Result.{done, refused}
 use Rattle.profile.specs.declared.Profile.{Profile}
 use Rattle.image.specs.Image.{profileOf}
@@ -53,13 +53,13 @@ module _ (d : Device) (p : Profile) (ps : List Profile) where
   unfolding putNumber
   put-newer e q f h = rw (e, f, lt-ltb (q .serial) (p .serial) h)
 
-  pub put-full : sameKey (keyOf p) (deviceKey d) ≡ true → find (keyOf p) ps ≡ refused nothing-stored
+  pub put-full : sameKey (keyOf p) (deviceKey d) ≡ true → find (keyOf p) ps ≡ refused not-stored
       → capacity ≤ length ps
       → putNumber d p ps ≡ 8
   unfolding putNumber
   put-full e f h = rw (e, f, le-ltb (length ps) capacity h)
 
-  pub put-room : sameKey (keyOf p) (deviceKey d) ≡ true → find (keyOf p) ps ≡ refused nothing-stored
+  pub put-room : sameKey (keyOf p) (deviceKey d) ≡ true → find (keyOf p) ps ≡ refused not-stored
       → length ps < capacity
       → putNumber d p ps ≡ 0
   unfolding putNumber
@@ -72,7 +72,7 @@ module _ (d : Device) (p : Profile) (ps : List Profile) where
   put-accepts its new place =
       let fits = isStored (keyOf p) ps || ltb (length ps) capacity in
       rw its
-      (ap (λ (b : Bool). pick b (firstRefusal (full unless fits ∷ [])) 7) new
+      (ap (λ (b : Bool). pick b (firstRefusal (store-full unless fits ∷ [])) 7) new
       ∙ ap (λ (b : Bool). pick b 0 8) place)
 
   pub put-passed : putNumber d p ps ≡ 0

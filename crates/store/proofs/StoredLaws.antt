@@ -18,7 +18,7 @@ use mathlib.Core.List.{
 use Prim.Native.Nat.{ℕ, suc}
 use native.Mathlib.Omega.{arith}
 use lib.ListN.{length}
-use Rattle.outcome.specs.Answer.{nothing-stored, pick}
+use Rattle.outcome.specs.Answer.{not-stored, pick}
 use Rattle.profile.specs.declared.Profile.{Profile}
 use Rattle.outcome.specs.Result.{Result, done, refused}
 use Rattle.store.specs.declared.Key.{Key}
@@ -50,14 +50,14 @@ unfolding find
 stored-cons k p ps = is-done (sameKey (keyOf p) k) p (find k ps)
 
 -- what is not stored is found nowhere
-pub find-none : (k : Key) (ps : List Profile) → isStored k ps ≡ false → find k ps ≡ refused nothing-stored
+pub find-none : (k : Key) (ps : List Profile) → isStored k ps ≡ false → find k ps ≡ refused not-stored
 unfolding find
 find-none k [] e = refl
 find-none k (p ∷ ps) e = go (sameKey (keyOf p) k) e (find-none k ps)
   where
     go : (b : Bool) → isDone (pick b (done p) (find k ps)) ≡ false
-        → (isStored k ps ≡ false → find k ps ≡ refused nothing-stored)
-        → pick b (done p) (find k ps) ≡ refused nothing-stored
+        → (isStored k ps ≡ false → find k ps ≡ refused not-stored)
+        → pick b (done p) (find k ps) ≡ refused not-stored
     go true f rest = absurd (not-both true refl f)
     go false f rest = rest f
 

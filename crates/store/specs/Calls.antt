@@ -9,11 +9,11 @@ use lib.Dec.{eqb, ltb}
 use lib.ListN.{length}
 use Rattle.outcome.specs.Answer.{
   bad-size,
-  bad-line,
+  bad-profile,
   other-device,
   old-serial,
-  full,
-  nothing-stored,
+  store-full,
+  not-stored,
   bad-device,
   Check,
   _unless_,
@@ -34,7 +34,7 @@ use Rattle.store.specs.Stored.{capacity, storeSize, withProfile, stored,
 
 abbrev pub lookupChecks : List Class → Device → List Profile → List Check
 lookupChecks table d ps =
-    bad-device unless deviceOk table d ∷ nothing-stored unless isStored (deviceKey d) ps ∷ []
+    bad-device unless deviceOk table d ∷ not-stored unless isStored (deviceKey d) ps ∷ []
 
 -- a result, unless a check fails before: the first that fails decides
 abbrev pub after : {A : Type 0} → List Check → Result A → Result A
@@ -64,8 +64,8 @@ lookupLineChecks table image country class old =
     ∷ bad-device unless deviceOk table (deviceOf country class)
     ∷ bad-size unless eqb (length image) storeSize
     ∷ bad-size unless eqb (length old) longest
-    ∷ nothing-stored unless isDone (foundIn table image country class)
-    ∷ bad-line unless validIn table (foundIn table image country class)
+    ∷ not-stored unless isDone (foundIn table image country class)
+    ∷ bad-profile unless validIn table (foundIn table image country class)
     ∷ []
 
 -- the line of what is found
@@ -85,7 +85,7 @@ abbrev pub putChecks : Device → Profile → List Profile → List Check
 putChecks d p ps =
     other-device unless sameKey (keyOf p) (deviceKey d)
     ∷ old-serial unless newer p (find (keyOf p) ps)
-    ∷ full unless (isStored (keyOf p) ps || ltb (length ps) capacity)
+    ∷ store-full unless (isStored (keyOf p) ps || ltb (length ps) capacity)
     ∷ []
 
 unfoldable pub putNumber : Device → Profile → List Profile → ℕ

@@ -7,7 +7,7 @@ use mathlib.Core.List.{List, [], _∷_, _++_}
 use Prim.Native.Nat.{ℕ, zero, suc, _+_, _*_}
 use lib.Dec.{eqb}
 use lib.ListN.{getD, take, drop, set}
-use Rattle.outcome.specs.Answer.{nothing-stored, pick}
+use Rattle.outcome.specs.Answer.{not-stored, pick}
 use Rattle.outcome.specs.Result.{Result, done, refused}
 use Rattle.profile.specs.declared.Profile.{Profile}
 use Rattle.image.specs.Image.{profileSize, profileOf, imageOf}
@@ -76,7 +76,7 @@ stored image = profilesIn (slotsOf capacity image)
 
 -- the first profile of the key
 unfoldable pub find : Key → List Profile → Result Profile
-find k [] = refused nothing-stored
+find k [] = refused not-stored
 find k (p ∷ ps) = pick (sameKey (keyOf p) k) (done p) (find k ps)
 
 abbrev pub isDone : {A : Type 0} → Result A → Bool

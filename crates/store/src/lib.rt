@@ -3,7 +3,13 @@
 pub mod slots;
 
 use image::PROFILE_SIZE;
-use image::put_line;
+use image::write_profile_line;
+use outcome::BAD_DEVICE;
+use outcome::BAD_SIZE;
+use outcome::NOT_STORED;
+use outcome::OLD_SERIAL;
+use outcome::OTHER_DEVICE;
+use outcome::STORE_FULL;
 use profile::Country;
 use profile::LONGEST;
 use profile::Profile;
@@ -149,23 +155,23 @@ pub fn lookup(store: &[u8], country: &[u8], class: u32, out: &mut [u8], length: 
         (now (out .exit)) (now (length .exit)) ⌝ }
 {
     if country.len() != 2 {
-        return 10;
+        return BAD_DEVICE;
     }
     let device = device_of(country, class);
     if !device_ok(device) {
-        return 10;
+        return BAD_DEVICE;
     }
     if store.len() != STORE_SIZE {
-        return 1;
+        return BAD_SIZE;
     }
     if out.len() != LONGEST {
-        return 1;
+        return BAD_SIZE;
     }
     let i = find_key(store, device_key(device));
     if i >= CAPACITY {
-        return 9;
+        return NOT_STORED;
     }
-    put_line(profile_at(store, i), out, length)
+    write_profile_line(profile_at(store, i), out, length)
 }
 
 // Stores a profile of the device's own country and class, in place of an older one of these or in a free slot.
@@ -175,20 +181,20 @@ pub fn put(store: &mut [u8], profile: Profile, device: Device) -> u8
     ensures { λ r. ⌜ Puts device profile (now (store .entry)) r (now (store .exit)) ⌝ }
 {
     if !is_for(profile, device) {
-        return 6;
+        return OTHER_DEVICE;
     }
     let held = find_key(store, key_of(profile));
     if held < CAPACITY {
         let old = profile_at(store, held);
         if profile.serial <= old.serial {
-            return 7;
+            return OLD_SERIAL;
         }
         write_slot(store, held, profile);
         return 0;
     }
     let free = find_free(store);
     if free >= CAPACITY {
-        return 8;
+        return STORE_FULL;
     }
     write_slot(store, free, profile);
     0

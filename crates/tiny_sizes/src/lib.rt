@@ -96,7 +96,7 @@ pub extern "C" fn tiny_verify_round(
 {
     let mut block = [0u8; TINY.matrix];
     let mut vs = [0u8; DRAWN_MATRIX];
-    verifier::examine::examine(
+    verifier::verify_round::verify_round(
         TINY,
         key,
         salt,

@@ -6,7 +6,7 @@ use Prim.Native.Nat.{ℕ}
 use Rattle.outcome.specs.Answer.{firstRefusal}
 use Rattle.outcome.specs.Lists.{same}
 use Rattle.parameters.specs.declared.Params.{Params}
-use Rattle.scheme.specs.Strings.{digest, joined, string6}
+use Rattle.scheme.specs.Strings.{digest, joined, allResponsesString}
 use Rattle.scheme.specs.Verify.{differences}
 
 module _ (p : Params) (c h root c1s hs : List ℕ) {made : List ℕ} (m : made ≡ joined p root c1s) where
@@ -14,7 +14,7 @@ module _ (p : Params) (c h root c1s hs : List ℕ) {made : List ℕ} (m : made �
   unfolding differences
   c-differs e = rw (sym (ap (same c) m) ∙ e)
 
-  module _ (agrees : same c made ≡ true) {got : List ℕ} (g : got ≡ digest p (string6 hs)) where
+  module _ (agrees : same c made ≡ true) {got : List ℕ} (g : got ≡ digest p (allResponsesString hs)) where
     pub h-differs : same h got ≡ false → 4 ≡ firstRefusal (differences p c h root c1s hs)
     unfolding differences
     h-differs f = rw (sym (ap (same c) m) ∙ agrees, sym (ap (same h) g) ∙ f)

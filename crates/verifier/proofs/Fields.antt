@@ -9,7 +9,7 @@ use Rattle.outcome.specs.Answer.{Check, _unless_, bad-field, Answers}
 use Rattle.outcome.proofs.Checks.{passed}
 use Rattle.packing.specs.Packing.{unpack, size, allBelow, spareZero, unpackChecks}
 use Rattle.packing.proofs.RoundTrip.{length-unpack}
-use Rattle.packing.specs.Vector.{Vector}
+use Rattle.packing.specs.InnerVector.{Vector}
 
 module _ (w m n : ℕ) where
   -- the tests of n fields: range, then spare bits

@@ -13,7 +13,7 @@ use Rattle.parameters.specs.declared.Params.{Params}
 use Rattle.parameters.specs.Sound.{Sound}
 use Rattle.sampling.proofs.Kept.{sample-below, length-sample}
 use Rattle.scheme.specs.Key.{keyFields, syndromeOf, matrix, matrixDrawn, matrixBlock, matrixCount}
-use Rattle.packing.specs.Vector.{Vector}
+use Rattle.packing.specs.InnerVector.{Vector}
 use Rattle.verifier.proofs.Fields.{reads, read-vector}
 use Rattle.verifier.proofs.Vectors.{made}
 

@@ -1,4 +1,3 @@
-pub mod Answering
 pub mod Comparing
 pub mod Fields
 pub mod Halves

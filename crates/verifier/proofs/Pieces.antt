@@ -7,15 +7,15 @@ use Prim.Native.Nat.{ℕ, _+_, _-_, _*_}
 use lib.ListN.{length}
 use Rattle.outcome.specs.Answer.{firstRefusal}
 use Rattle.outcome.specs.Lists.{flat}
-use Rattle.packing.specs.Vector.{Vector}
+use Rattle.packing.specs.InnerVector.{Vector}
 use Rattle.parameters.specs.declared.Params.{Params}
 use Rattle.parameters.specs.Sound.{Sound}
 use Rattle.scheme.specs.Sign.{firstChallenges, firstDrawn, secondChallenges, secondDrawn, partSize}
 use Rattle.scheme.specs.Verify as verify
 use Rattle.scheme.proofs.Challenges.{below-first, length-first, length-second, second-fills}
 use Rattle.verifier.specs.declared.rounds.Rounds.{Rounds}
-use Rattle.verifier.specs.Rounds.{Compared, Ran}
-use Rattle.verifier.proofs.Answering.{stops, goes-on}
+use Rattle.verifier.specs.InnerRounds.{Compared, Ran}
+use Rattle.outcome.proofs.Answering.{stops, goes-on}
 use Rattle.verifier.proofs.Vectors.{made}
 
 module _ (p : Params) (vs s salt c h rounds msg : List ℕ) where

@@ -10,13 +10,13 @@ use Rattle.outcome.specs.Answer.{firstRefusal}
 use Rattle.outcome.specs.Lists.{same}
 use Rattle.parameters.specs.declared.Params.{Params}
 use Rattle.parameters.specs.Sound.{Sound}
-use Rattle.scheme.specs.Strings.{digest, string2}
+use Rattle.scheme.specs.Strings.{digest, responseString}
 use Rattle.scheme.specs.Round.{replyChecks, replyString, replyResponse}
-use Rattle.scheme.specs.Examine.{examineRound}
+use Rattle.scheme.specs.VerifyRound.{verifyRoundReply}
 use Rattle.scheme.proofs.PartsStrings.{length-digest}
 use Rattle.expand.proofs.Lent.{Lent}
-use Rattle.verifier.specs.Recomputed.{Recomputed}
-use Rattle.verifier.proofs.Answering.{stops, goes-on}
+use Rattle.verifier.specs.InnerRecomputed.{Recomputed}
+use Rattle.outcome.proofs.Answering.{stops, goes-on}
 
 -- two digests in the first places of an array
 module _ (d : ℕ) {old new : List ℕ} (lent : Lent (d + d) old new) where
@@ -38,31 +38,31 @@ module _ {p : Params} (sound : Sound p) {vs s : List ℕ} {b β : ℕ} {reply sa
   given = digest p (replyString p vs s b β reply salt i)
 
   abbrev h : List ℕ
-  h = digest p (string2 (replyResponse p b β reply salt i))
+  h = digest p (responseString (replyResponse p b β reply salt i))
 
   pub given-part : take (p .digest) out ≡ digest p (replyString p vs s b β reply salt i)
   given-part = ap (take (p .digest)) (made .content zero) ∙ take-at given h (p .digest) (length-digest p sound _)
 
-  pub h-part : drop (p .digest) out ≡ digest p (string2 (replyResponse p b β reply salt i))
+  pub h-part : drop (p .digest) out ≡ digest p (responseString (replyResponse p b β reply salt i))
   h-part = ap (drop (p .digest)) (made .content zero) ∙ drop-at given h (p .digest) (length-digest p sound _)
 
   module _ (matching hi : List ℕ) where
     pub first-differs : same matching (take (p .digest) out) ≡ false
-        → 4 ≡ firstRefusal (examineRound p vs s salt i β b reply matching hi)
-    unfolding examineRound
+        → 4 ≡ firstRefusal (verifyRoundReply p vs s salt i β b reply matching hi)
+    unfolding verifyRoundReply
     first-differs e =
         goes-on (replyChecks p b reply salt i) _ (made .answer) zero (rw (sym (ap (same matching) given-part) ∙ e))
 
     pub second-differs : same matching (take (p .digest) out) ≡ true → same hi (drop (p .digest) out) ≡ false
-        → 4 ≡ firstRefusal (examineRound p vs s salt i β b reply matching hi)
-    unfolding examineRound
+        → 4 ≡ firstRefusal (verifyRoundReply p vs s salt i β b reply matching hi)
+    unfolding verifyRoundReply
     second-differs e f =
         goes-on (replyChecks p b reply salt i) _ (made .answer) zero
         (rw (sym (ap (same matching) given-part) ∙ e, sym (ap (same hi) h-part) ∙ f))
 
     pub both-agree : same matching (take (p .digest) out) ≡ true → same hi (drop (p .digest) out) ≡ true
-        → 0 ≡ firstRefusal (examineRound p vs s salt i β b reply matching hi)
-    unfolding examineRound
+        → 0 ≡ firstRefusal (verifyRoundReply p vs s salt i β b reply matching hi)
+    unfolding verifyRoundReply
     both-agree e f =
         goes-on (replyChecks p b reply salt i) _ (made .answer) zero
         (rw (sym (ap (same matching) given-part) ∙ e, sym (ap (same hi) h-part) ∙ f))
@@ -70,7 +70,7 @@ module _ {p : Params} (sound : Sound p) {vs s : List ℕ} {b β : ℕ} {reply sa
 pub reply-stops : {p : Params} {vs s : List ℕ} {b β : ℕ} {reply salt : List ℕ} {i r : ℕ} {out : List ℕ}
     (matching hi : List ℕ)
     → Recomputed p vs s b β reply salt i r out → (r ≡ 0 → ⊥)
-    → r ≡ firstRefusal (examineRound p vs s salt i β b reply matching hi)
-unfolding examineRound
+    → r ≡ firstRefusal (verifyRoundReply p vs s salt i β b reply matching hi)
+unfolding verifyRoundReply
 reply-stops {p} {vs} {s} {b} {β} {reply} {salt} {i} matching hi made h =
     stops (replyChecks p b reply salt i) _ (made .answer) h

@@ -9,14 +9,14 @@ use lib.Seq.{length-take-le}
 use Rattle.outcome.specs.Answer.{firstRefusal}
 use Rattle.outcome.specs.Lists.{flat, total}
 use Rattle.parameters.specs.declared.Params.{Params}
-use Rattle.scheme.specs.Strings.{string3, string4, string6}
+use Rattle.scheme.specs.Strings.{allCommitments0String, allCommitments1String, allResponsesString}
 use Rattle.scheme.specs.Sign.{partSize}
 use Rattle.scheme.specs.Verify.{offset, partAt, checksAt, c0At, c1At, hAt}
 use Rattle.scheme.proofs.Challenges.{total-within}
 use Rattle.verifier.specs.declared.rounds.Sponges.{Sponges}
 use Rattle.verifier.specs.declared.rounds.Rounds.{Rounds}
-use Rattle.verifier.specs.Rounds.{Stepped, AllReady, HoldAll, Ran}
-use Rattle.verifier.proofs.Answering.{flat-stops, flat-passes}
+use Rattle.verifier.specs.InnerRounds.{Stepped, AllReady, HoldAll, Ran}
+use Rattle.outcome.proofs.Answering.{flat-stops, flat-passes}
 
 pub all-ready : {sponges : Sponges} {rate : ℕ} {c0s c1s hs : List ℕ} → HoldAll sponges rate c0s c1s hs
     → AllReady sponges
@@ -68,7 +68,7 @@ module _ {p : Params} {vs s salt rounds β b : List ℕ} {sponges : Sponges} {at
             step
 
         pub running-more : next .answer ≡ 0 → Running p vs s salt rounds β b (next .sponges) end (j + 1)
-        unfolding flat total checksAt c0At c1At hAt string3 string4 string6
+        unfolding flat total checksAt c0At c1At hAt allCommitments0String allCommitments1String allResponsesString
         running-more z =
             rw add-one
             (record {

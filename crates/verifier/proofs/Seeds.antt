@@ -10,7 +10,7 @@ use Rattle.parameters.specs.declared.Params.{Params}
 use Rattle.sampling.specs.Sampling.{enough, yield}
 use Rattle.sampling.proofs.Kept.{sample-below}
 use Rattle.linear.specs.Linear.{response}
-use Rattle.scheme.specs.Strings.{digest, string1, string2, string10-round}
+use Rattle.scheme.specs.Strings.{digest, commitment1String, responseString, maskExponentsString}
 use Rattle.scheme.specs.Key.{exponentsDrawn}
 use Rattle.scheme.specs.Round.{
   maskExponents,
@@ -22,13 +22,13 @@ use Rattle.scheme.specs.Round.{
   replyResponse,
 }
 use Rattle.scheme.proofs.PartsStrings.{below-mask, length-mask, length-values}
-use Rattle.packing.specs.Vector.{Vector}
-use Rattle.verifier.specs.Recomputed.{Recomputed}
+use Rattle.packing.specs.InnerVector.{Vector}
+use Rattle.verifier.specs.InnerRecomputed.{Recomputed}
 use Rattle.verifier.proofs.Vectors.{made}
 
 module _ (p : Params) (β : ℕ) (seed salt : List ℕ) (i : ℕ) where
   abbrev exponents : Bool
-  exponents = exponentsDrawn p (string10-round seed salt i)
+  exponents = exponentsDrawn p (maskExponentsString seed salt i)
 
   abbrev values : Bool
   values = enough (p .n) (yield 7 127 0 (maskBlock p seed salt i))
@@ -58,12 +58,12 @@ module _ (p : Params) (β : ℕ) (seed salt : List ℕ) (i : ℕ) where
     values-vector d = made 127 (p .n) d (length-values p seed salt i drawn) below-values
 
     pub seed-made : {us es out : List ℕ} → us ≡ maskValues p seed salt i → es ≡ maskExponents p seed salt i
-        → out ≡ digest p (string1 us es salt i) ++ digest p (string2 (response β us es))
+        → out ≡ digest p (commitment1String us es salt i) ++ digest p (responseString (response β us es))
         → Recomputed p [] [] 1 β seed salt i 0 out
     unfolding replyChecks replyString replyResponse
     seed-made u v o =
         record {
           answer = sym drawn;
-          content = λ z. o ∙ (λ j. digest p (string1 (u j) (v j) salt i) ++ digest p
-              (string2 (response β (u j) (v j))));
+          content = λ z. o ∙ (λ j. digest p (commitment1String (u j) (v j) salt i) ++ digest p
+              (responseString (response β (u j) (v j))));
         }

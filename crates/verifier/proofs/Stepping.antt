@@ -8,12 +8,12 @@ use lib.ListN.{take, drop}
 use Rattle.outcome.specs.Answer.{pick}
 use Rattle.parameters.specs.declared.Params.{Params}
 use Rattle.parameters.specs.Sound.{Sound}
-use Rattle.shake.specs.Fold.{Absorbs}
+use Rattle.shake.specs.InnerFold.{Absorbs}
 use Rattle.scheme.specs.Round.{replySize}
 use Rattle.scheme.specs.Verify.{replyIn, checksIn, broughtIn, givenIn, c0In, c1In, hIn}
 use Rattle.verifier.specs.declared.rounds.Sponges.{Sponges}
-use Rattle.verifier.specs.Recomputed.{Recomputed}
-use Rattle.verifier.specs.Rounds.{Stepped}
+use Rattle.verifier.specs.InnerRecomputed.{Recomputed}
+use Rattle.verifier.specs.InnerRounds.{Stepped}
 use Rattle.verifier.proofs.Rounded.{given-part, h-part}
 
 pub pick-true : (t : Bool) (x y : List ℕ) → t ≡ true → x ≡ pick t x y

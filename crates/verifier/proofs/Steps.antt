@@ -12,7 +12,7 @@ use Rattle.scheme.specs.Key.{keySize}
 use Rattle.scheme.specs.Round.{replySize}
 use Rattle.scheme.specs.Sign.{signatureSize}
 use Rattle.scheme.specs.Verify.{verifySizes}
-use Rattle.scheme.specs.Examine.{examineSizes, examineNumbers}
+use Rattle.scheme.specs.VerifyRound.{verifyRoundSizes, verifyRoundNumbers}
 
 module _ (p : Params) where
   -- the round examiner's
@@ -20,26 +20,26 @@ module _ (p : Params) where
       (key salt c0 c1 h : List ℕ)
       (b : ℕ)
       (reply : List ℕ)
-      (passes : firstRefusal (examineSizes p key salt c0 c1 h b reply) ≡ 0)
+      (passes : firstRefusal (verifyRoundSizes p key salt c0 c1 h b reply) ≡ 0)
     where
       pub key-sized : length key ≡ keySize p
-      unfolding examineSizes
-      key-sized = eqb→eq (length key) (keySize p) (passed (examineSizes p key salt c0 c1 h b reply) passes .0)
+      unfolding verifyRoundSizes
+      key-sized = eqb→eq (length key) (keySize p) (passed (verifyRoundSizes p key salt c0 c1 h b reply) passes .0)
 
       pub reply-sized : b ≤ 1 → length reply ≡ replySize p b
-      unfolding examineSizes
+      unfolding verifyRoundSizes
       reply-sized l =
-          let held = passed (examineSizes p key salt c0 c1 h b reply) passes .1 .1 .1 .1 .1 .0 in
+          let held = passed (verifyRoundSizes p key salt c0 c1 h b reply) passes .1 .1 .1 .1 .1 .0 in
           eqb→eq (length reply) (replySize p b) (rw (le-leb b 1 l) at held)
 
-  module _ (i β b : ℕ) (passes : firstRefusal (examineNumbers p i β b) ≡ 0) where
+  module _ (i β b : ℕ) (passes : firstRefusal (verifyRoundNumbers p i β b) ≡ 0) where
     pub small : β ≤ 126
-    unfolding examineNumbers
-    small = leb→le β 126 (passed (examineNumbers p i β b) passes .1 .1 .1 .0)
+    unfolding verifyRoundNumbers
+    small = leb→le β 126 (passed (verifyRoundNumbers p i β b) passes .1 .1 .1 .0)
 
     pub binary : b ≤ 1
-    unfolding examineNumbers
-    binary = leb→le b 1 (passed (examineNumbers p i β b) passes .1 .1 .1 .1 .0)
+    unfolding verifyRoundNumbers
+    binary = leb→le b 1 (passed (verifyRoundNumbers p i β b) passes .1 .1 .1 .1 .0)
 
   -- the verifier's
   module _ (key msg sig : ℕ) (passes : firstRefusal (verifySizes p key msg sig) ≡ 0) where

@@ -13,7 +13,7 @@ use Rattle.packing.proofs.Below.{Below, below-take, below-drop}
 use Rattle.packing.proofs.RoundTrip.{pack-unpack}
 use Rattle.parameters.specs.declared.Params.{Params}
 use Rattle.linear.specs.Linear.{scaled, syndrome, lessTimes}
-use Rattle.scheme.specs.Strings.{digest, string0, string2, roundNumber}
+use Rattle.scheme.specs.Strings.{digest, commitment0String, responseString, roundNumber}
 use Rattle.scheme.specs.Round.{
   valuesSize,
   replySize,
@@ -25,8 +25,8 @@ use Rattle.scheme.specs.Round.{
   replyString,
   replyResponse,
 }
-use Rattle.verifier.specs.Recomputed.{Recomputed}
-use Rattle.verifier.proofs.Answering.{stops, goes-on}
+use Rattle.verifier.specs.InnerRecomputed.{Recomputed}
+use Rattle.outcome.proofs.Answering.{stops, goes-on}
 use Rattle.verifier.proofs.Fields.{fieldChecks, Read}
 
 module _ (p : Params) (vs s : List ℕ) (β : ℕ) (reply salt : List ℕ) (i : ℕ) where
@@ -87,7 +87,7 @@ module _ (p : Params) (vs s : List ℕ) (β : ℕ) (reply salt : List ℕ) (i : 
       pub values-made : {xs out : List ℕ} → xs ≡ lessTimes β (syndrome (p .k) vs (scaled es ys)) s
           → out ≡ digest p (0 ∷ pack 7 xs ++ exponents ++ salt ++ roundNumber i) ++ digest p (2 ∷ values)
           → Recomputed p vs s 0 β reply salt i 0 out
-      unfolding replyChecks replyString replyResponse string0 string2
+      unfolding replyChecks replyString replyResponse commitment0String responseString
       values-made d o =
           let x = syndrome-made d in
           record {

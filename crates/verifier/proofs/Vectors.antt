@@ -7,7 +7,7 @@ use Rattle.packing.proofs.Below.{Below}
 use Rattle.linear.specs.Linear.{scaled, syndrome, lessTimes}
 use Rattle.linear.proofs.Kept.{kept-below}
 use Rattle.linear.proofs.Sizes.{length-scaled, length-syndrome, length-lessTimes}
-use Rattle.packing.specs.Vector.{Vector}
+use Rattle.packing.specs.InnerVector.{Vector}
 
 -- what equals a list of that length and range
 pub made : (m n : ℕ) {xs ys : List ℕ} → xs ≡ ys → length ys ≡ n → Below m ys → Vector m n xs

@@ -1,2 +1,2 @@
-pub mod Recomputed
-pub mod Rounds
+pub mod InnerRecomputed
+pub mod InnerRounds

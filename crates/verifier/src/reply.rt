@@ -1,10 +1,12 @@
 // One round recomputed from its reply: the commitment that the reply gives, then h(i).
 use field::Value;
+use outcome::SHORT_DRAW;
 use parameters::DRAWN_PLACES;
 use parameters::PACKED_EXPONENTS;
 use parameters::PACKED_VALUES;
 use parameters::PLACES;
 use parameters::Params;
+use scheme::tag;
 ghost use mathlib.Core.Path.{_≡_};
 ghost use mathlib.Core.List.{[], _∷_, _++_};
 ghost use Prim.Native.Nat.{_-_, _*_, _<_, _≤_};
@@ -12,11 +14,11 @@ ghost use lib.ListN.{length, take, drop};
 ghost use Rattle.parameters.specs.Sound.{Sound};
 ghost use Rattle.packing.specs.Packing.{pack};
 ghost use Rattle.linear.specs.Linear.{scaled, lessTimes, response, syndrome as syndromeOf};
-ghost use Rattle.scheme.specs.Strings.{digest, string1, string2, roundNumber};
+ghost use Rattle.scheme.specs.Strings.{digest, commitment1String, responseString, roundNumber};
 ghost use Rattle.scheme.specs.Key.{matrixCount};
 ghost use Rattle.scheme.specs.Round.{valuesSize, replySize};
-ghost use Rattle.packing.specs.Vector.{Vector};
-ghost use Rattle.verifier.specs.Recomputed.{Recomputed};
+ghost use Rattle.packing.specs.InnerVector.{Vector};
+ghost use Rattle.verifier.specs.InnerRecomputed.{Recomputed};
 
 // A round: its number from 1, its first and its second challenge.
 pub struct Round {
@@ -28,7 +30,7 @@ pub struct Round {
 // c1(i): mask values and mask exponents, packed.
 fn commit_mask(p: Params, us: &[u8], es: &[u8], salt: &[u8], i: usize, out: &mut [u8])
     requires { ⌜ Sound p × Vector 127 (p .n) (now us) × Vector 7 (p .n) (now es) × (length (now out) ≡ p .digest) ⌝ }
-    ensures { λ _. ⌜ now (out .exit) ≡ digest p (string1 (now (us .entry)) (now (es .entry)) (now (salt .entry)) i) ⌝ }
+    ensures { λ _. ⌜ now (out .exit) ≡ digest p (commitment1String (now (us .entry)) (now (es .entry)) (now (salt .entry)) i) ⌝ }
 {
     let u = packing::packed_size(p.n, 7);
     let e = packing::packed_size(p.n, 3);
@@ -37,18 +39,26 @@ fn commit_mask(p: Params, us: &[u8], es: &[u8], salt: &[u8], i: usize, out: &mut
     let mut exponents = [0u8; PACKED_EXPONENTS];
     expand::pack_exponents(es, &mut exponents[..e]);
     let number = expand::round_number(i);
-    hashing::hash4(p.rate, 1, &values[..u], &exponents[..e], salt, &number, out);
+    hashing::hash4(
+        p.rate,
+        tag::COMMITMENT_1,
+        &values[..u],
+        &exponents[..e],
+        salt,
+        &number,
+        out,
+    );
 }
 
 // h(i) of a response.
 fn commit_response(p: Params, ys: &[u8], out: &mut [u8])
     requires { ⌜ Sound p × Vector 127 (p .n) (now ys) × (length (now out) ≡ p .digest) ⌝ }
-    ensures { λ _. ⌜ now (out .exit) ≡ digest p (string2 (now (ys .entry))) ⌝ }
+    ensures { λ _. ⌜ now (out .exit) ≡ digest p (responseString (now (ys .entry))) ⌝ }
 {
     let y = packing::packed_size(p.n, 7);
     let mut values = [0u8; PACKED_VALUES];
     expand::pack_values(ys, &mut values[..y]);
-    hashing::hash1(p.rate, 2, &values[..y], out);
+    hashing::hash1(p.rate, tag::RESPONSE, &values[..y], out);
 }
 
 // Both digests from the mask values u' and the mask exponents e'.
@@ -57,8 +67,8 @@ fn from_mask(p: Params, us: &[u8], es: &[u8], salt: &[u8], round: Round, out: &m
         × (length (now out) ≡ 2 * p .digest) ⌝ }
     ensures { λ _.
         ⌜ now (out .exit) ≡
-        digest p (string1 (now (us .entry)) (now (es .entry)) (now (salt .entry)) (round .i)) ++
-        digest p (string2 (response (round .beta .0) (now (us .entry)) (now (es .entry)))) ⌝ }
+        digest p (commitment1String (now (us .entry)) (now (es .entry)) (now (salt .entry)) (round .i)) ++
+        digest p (responseString (response (round .beta .0) (now (us .entry)) (now (es .entry)))) ⌝ }
 {
     let n = p.n;
     let d = p.digest;
@@ -80,11 +90,11 @@ fn from_seed(p: Params, salt: &[u8], round: Round, seed: &[u8], out: &mut [u8]) 
     let i = round.i;
     let mut es = [0u8; DRAWN_PLACES];
     if !expand::mask_exponents(p, seed, salt, i, &mut es) {
-        return 2;
+        return SHORT_DRAW;
     }
     let mut us = [0u8; DRAWN_PLACES];
     if !expand::mask_values(p, seed, salt, i, &mut us) {
-        return 2;
+        return SHORT_DRAW;
     }
     from_mask(p, &us[..n], &es[..n], salt, round, out);
     0
@@ -120,7 +130,15 @@ fn commit_syndrome(p: Params, xs: &[u8], exponents: &[u8], salt: &[u8], i: usize
     let mut values = [0u8; PACKED_VALUES];
     expand::pack_values(xs, &mut values[..x]);
     let number = expand::round_number(i);
-    hashing::hash4(p.rate, 0, &values[..x], exponents, salt, &number, out);
+    hashing::hash4(
+        p.rate,
+        tag::COMMITMENT_0,
+        &values[..x],
+        exponents,
+        salt,
+        &number,
+        out,
+    );
 }
 
 // Both digests from y and σ, whose packed forms are the reply's own bytes.
@@ -136,7 +154,7 @@ fn from_fields(p: Params, xs: &[u8], reply: &[u8], salt: &[u8], i: usize, out: &
     let d = p.digest;
     let cut = packing::packed_size(p.n, 7);
     commit_syndrome(p, xs, &reply[cut..], salt, i, &mut out[..d]);
-    hashing::hash1(p.rate, 2, &reply[..cut], &mut out[d..]);
+    hashing::hash1(p.rate, tag::RESPONSE, &reply[..cut], &mut out[d..]);
 }
 
 // Under the second challenge 0: the reply is y and σ, packed.

@@ -2,21 +2,23 @@
 use crate::reply;
 use crate::reply::Round;
 use field::Value;
+use outcome::MISMATCH;
 use parameters::DIGEST;
 use parameters::Params;
 use parameters::TWO_DIGESTS;
+use scheme::tag;
 use shake::Sponge;
 ghost use mathlib.Core.Path.{_≡_};
 ghost use Prim.Native.Nat.{_+_, _-_, _<_};
 ghost use mathlib.Core.List.{[]};
 ghost use lib.ListN.{length};
 ghost use Rattle.parameters.specs.Sound.{Sound};
-ghost use Rattle.shake.specs.Fold.{Absorbs};
+ghost use Rattle.shake.specs.InnerFold.{Absorbs};
 ghost use Rattle.scheme.specs.Key.{matrixCount};
 ghost use Rattle.scheme.specs.Sign.{partSize};
 ghost use Rattle.scheme.specs.Verify.{offset};
-ghost use Rattle.packing.specs.Vector.{Vector};
-ghost use Rattle.verifier.specs.Rounds.{Stepped, AllReady, HoldAll, Compared, Ran};
+ghost use Rattle.packing.specs.InnerVector.{Vector};
+ghost use Rattle.verifier.specs.InnerRounds.{Stepped, AllReady, HoldAll, Compared, Ran};
 
 // What goes in: all c0(i), all c1(i), all h(i).
 pub struct Sponges {
@@ -88,9 +90,9 @@ fn begin(p: Params) -> Sponges
 {
     let rate = p.rate;
     Sponges {
-        c0: hashing::tagged(rate, 3),
-        c1: hashing::tagged(rate, 4),
-        h: hashing::tagged(rate, 6),
+        c0: hashing::tagged(rate, tag::ALL_COMMITMENTS_0),
+        c1: hashing::tagged(rate, tag::ALL_COMMITMENTS_1),
+        h: hashing::tagged(rate, tag::ALL_RESPONSES),
     }
 }
 
@@ -145,16 +147,16 @@ pub fn compare(p: Params, sponges: Sponges, c: &[u8], h: &[u8]) -> u8
     let mut c1 = [0u8; DIGEST];
     shake::squeeze(sponges.c1, &mut c1[..d]);
     let mut made = [0u8; DIGEST];
-    hashing::hash2(p.rate, 5, &c0[..d], &c1[..d], &mut made[..d]);
+    hashing::hash2(p.rate, tag::COMMITMENTS, &c0[..d], &c1[..d], &mut made[..d]);
     let commitment = &made[..d];
     if !buffers::equal(c, commitment) {
-        return 4;
+        return MISMATCH;
     }
     let mut hs = [0u8; DIGEST];
     shake::squeeze(sponges.h, &mut hs[..d]);
     let hash = &hs[..d];
     if !buffers::equal(h, hash) {
-        return 4;
+        return MISMATCH;
     }
     0
 }

@@ -1,6 +1,8 @@
 // Verifying a signature, as Figure 5 of CROSS 1.1 recomputes it.
 use crate::key;
 use crate::rounds;
+use outcome::BAD_SIZE;
+use outcome::SHORT_DRAW;
 use parameters::DRAWN_ROUNDS;
 use parameters::PLACES;
 use parameters::Params;
@@ -14,21 +16,21 @@ ghost use Rattle.scheme.specs.Key.{matrixCount};
 ghost use Rattle.scheme.specs.Sign.{signatureSize};
 ghost use Rattle.scheme.specs.Verify.{verifySizes, pieceChecks, saltOf, cOf, hOf, roundsOf};
 ghost use Rattle.scheme.specs.Entries.{Verifies};
-ghost use Rattle.expand.specs.Scratch.{Scratch};
-ghost use Rattle.packing.specs.Vector.{Vector};
+ghost use Rattle.expand.specs.InnerScratch.{Scratch};
+ghost use Rattle.packing.specs.InnerVector.{Vector};
 
 fn sizes(p: Params, key: usize, msg: usize, sig: usize) -> u8
     requires { ⌜ Sound p ⌝ }
     ensures { λ r. ⌜ r ≡ firstRefusal (verifySizes p key msg sig) ⌝ }
 {
     if key != scheme::key_size(p) {
-        return 1;
+        return BAD_SIZE;
     }
     if scheme::MESSAGE_MAX < msg {
-        return 1;
+        return BAD_SIZE;
     }
     if sig != scheme::signature_size(p) {
-        return 1;
+        return BAD_SIZE;
     }
     0
 }
@@ -50,11 +52,11 @@ fn pieces(p: Params, vs: &[u8], s: &[u8], msg: &[u8], sig: &[u8]) -> u8
     let h = &sig[d2..d3];
     let mut betas = [0u8; DRAWN_ROUNDS];
     if !expand::first_challenges(p, c, salt, msg, &mut betas) {
-        return 2;
+        return SHORT_DRAW;
     }
     let mut bs = [0u8; ROUNDS];
     if !expand::second_challenges(p, c, &betas[..t], h, salt, msg, &mut bs[..t]) {
-        return 2;
+        return SHORT_DRAW;
     }
     let ran = rounds::run(p, vs, s, salt, &betas[..t], &bs[..t], &sig[d3..]);
     if ran.answer != 0 {
@@ -79,7 +81,7 @@ pub fn verify(p: Params, key: &[u8], msg: &[u8], sig: &[u8], block: &mut [u8], v
     }
     let d = p.digest;
     if !expand::matrix(p, &key[..d], block, vs) {
-        return 2;
+        return SHORT_DRAW;
     }
     let count = m * p.k;
     pieces(p, &vs[..count], &s[..m], msg, sig)

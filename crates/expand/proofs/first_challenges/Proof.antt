@@ -1,7 +1,7 @@
 -- `first_challenges`: the draw is that of the scheme. Assumes nothing.
 use mathlib.Core.Path.{refl}
 use borrow.Author.Needs.{needs}
-use Rattle.scheme.specs.Strings.{bytesFrom, string7}
+use Rattle.scheme.specs.Strings.{bytesFrom, firstChallengesString}
 use Rattle.scheme.specs.Sign.{firstChallenges, firstDrawn, firstBlock}
 use Rattle.expand.proofs.Draws.{of-hash}
 use Rattle.expand.proofs.first_challenges.Statement.{statement}
@@ -17,7 +17,7 @@ same-length : tie.Need-same-length
 same-length c = search needs
 
 returns : tie.Need-returns
-unfolding firstChallenges firstDrawn firstBlock string7 bytesFrom
+unfolding firstChallenges firstDrawn firstBlock firstChallengesString bytesFrom
 returns c =
     let numbers = c .before .before .before .before in
     of-hash _ (numbers .first-challenges .ensures) refl (c .before .before .sampled3 .ensures)

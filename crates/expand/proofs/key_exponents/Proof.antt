@@ -2,7 +2,7 @@
 use native.Mathlib.Omega.{arith}
 use borrow.Author.Needs.{needs}
 use lib.ListN.{replicate}
-use Rattle.scheme.specs.Strings.{bytesFrom, string10}
+use Rattle.scheme.specs.Strings.{bytesFrom, keyExponentsString}
 use Rattle.scheme.specs.Key.{exponentsFrom, exponentsDrawn}
 use Rattle.expand.proofs.Lent.{Lent, part-length, lent-within, lent-length, lent-hash}
 use Rattle.expand.proofs.Draws.{of-draw}
@@ -13,13 +13,13 @@ array-borrow-prefix-block : tie.Need-array-borrow-prefix-block
 array-borrow-prefix-block c = search needs
 
 slice-aggregate-hash1 : tie.Need-slice-aggregate-hash1
-slice-aggregate-hash1 c = part-length (c .before .before .before .args .p .exponents) (replicate 384 0) (omega arith)
+slice-aggregate-hash1 c = part-length (c .before .before .before .args .p .exponents) (replicate 256 0) (omega arith)
 
 hash1-requires : tie.Need-hash1-requires
 hash1-requires c κs = search needs
 
 hashed : (c : tie.After-hash1) →
-    Lent (c .before .before .before .before .args .p .exponents) (replicate 384 0) (c .hash1 .last .1 .1 .1 .0)
+    Lent (c .before .before .before .before .args .p .exponents) (replicate 256 0) (c .hash1 .last .1 .1 .1 .0)
 hashed c = record { fits = omega arith; kept = c .hash1 .kept .1 .1 .1 .0 }
 
 exponents-requires : tie.Need-exponents-requires
@@ -38,7 +38,7 @@ same-length : tie.Need-same-length
 same-length c = search needs
 
 returns : tie.Need-returns
-unfolding exponentsDrawn exponentsFrom string10 bytesFrom
+unfolding exponentsDrawn exponentsFrom keyExponentsString bytesFrom
 returns c =
     let numbers = c .before .before .before .before .before in
     let at-hash = numbers .before .before in

@@ -3,7 +3,7 @@ use mathlib.Core.Path.{ap}
 use mathlib.Core.List.{List, _∷_, _++_}
 use Prim.Native.Nat.{ℕ}
 use borrow.Author.Needs.{needs}
-use Rattle.scheme.specs.Strings.{bytesFrom, string10-round}
+use Rattle.scheme.specs.Strings.{bytesFrom, maskExponentsString}
 use Rattle.scheme.specs.Key.{exponentsFrom, exponentsDrawn}
 use Rattle.scheme.specs.Round.{maskExponents}
 use Rattle.expand.proofs.Draws.{of-hash}
@@ -26,7 +26,7 @@ same-length : tie.Need-same-length
 same-length c = search needs
 
 returns : tie.Need-returns
-unfolding maskExponents exponentsDrawn exponentsFrom string10-round bytesFrom
+unfolding maskExponents exponentsDrawn exponentsFrom maskExponentsString bytesFrom
 returns c =
     let numbers = c .before .before .before .before .before in
     let a = numbers .before .before .before .before .before .args in

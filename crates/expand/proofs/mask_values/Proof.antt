@@ -3,7 +3,7 @@ use mathlib.Core.Path.{ap}
 use mathlib.Core.List.{List, _∷_, _++_}
 use Prim.Native.Nat.{ℕ}
 use borrow.Author.Needs.{needs}
-use Rattle.scheme.specs.Strings.{bytesFrom, string11}
+use Rattle.scheme.specs.Strings.{bytesFrom, maskValuesString}
 use Rattle.scheme.specs.Round.{maskValues, maskBlock}
 use Rattle.expand.proofs.Draws.{of-hash}
 use Rattle.expand.proofs.mask_values.Statement.{statement}
@@ -25,7 +25,7 @@ same-length : tie.Need-same-length
 same-length c = search needs
 
 returns : tie.Need-returns
-unfolding maskValues maskBlock string11 bytesFrom
+unfolding maskValues maskBlock maskValuesString bytesFrom
 returns c =
     let numbers = c .before .before .before .before .before in
     let a = numbers .before .before .before .before .before .args in

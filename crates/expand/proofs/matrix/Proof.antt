@@ -3,7 +3,7 @@ use mathlib.Core.Path.{_∙_, ap}
 use mathlib.Core.List.{_∷_}
 use borrow.Author.Needs.{needs}
 use Rattle.shake.specs.Shake.{shake}
-use Rattle.scheme.specs.Strings.{bytesFrom, string13}
+use Rattle.scheme.specs.Strings.{bytesFrom, matrixString}
 use Rattle.scheme.specs.Key.{matrix, matrixDrawn, matrixBlock}
 use Rattle.expand.proofs.Draws.{of-draw}
 use Rattle.expand.proofs.matrix.Statement.{statement}
@@ -25,7 +25,7 @@ same-length-2 : tie.Need-same-length-2
 same-length-2 c = search needs
 
 returns : tie.Need-returns
-unfolding matrix matrixDrawn matrixBlock string13 bytesFrom
+unfolding matrix matrixDrawn matrixBlock matrixString bytesFrom
 returns c =
     let numbers = c .before .before .before .before .before in
     let hashed = numbers .before .before .before in

@@ -7,7 +7,7 @@ use borrow.Author.Needs.{needs}
 use lib.ListN.{replicate}
 use Rattle.shake.specs.Shake.{shake}
 use Rattle.packing.specs.Packing.{size}
-use Rattle.scheme.specs.Strings.{bytesFrom, string8}
+use Rattle.scheme.specs.Strings.{bytesFrom, secondChallengeString}
 use Rattle.scheme.specs.Sign.{secondChallenges, secondDrawn, secondBlock}
 use Rattle.expand.proofs.Lent.{Lent, part-length, lent-within, lent-length, lent-part, lent-hash}
 use Rattle.expand.proofs.Draws.{from-shuffle}
@@ -82,7 +82,7 @@ same-length : tie.Need-same-length
 same-length c = search needs
 
 returns : tie.Need-returns
-unfolding secondChallenges secondDrawn secondBlock string8 bytesFrom
+unfolding secondChallenges secondDrawn secondBlock secondChallengeString bytesFrom
 returns c =
     let shuffled = c .before .before .shuffle in
     let at-hash = c .before .before .before .before .before .before in

@@ -12,8 +12,8 @@ returns c = let a = c .before .before .before .args in
 read-profile-requires : tie.Need-read-profile-requires
 read-profile-requires c κs = search needs
 
-put-line-requires : tie.Need-put-line-requires
-put-line-requires c κs = search needs
+write-profile-line-requires : tie.Need-write-profile-line-requires
+write-profile-line-requires c κs = search needs
 
 same-length : tie.Need-same-length
 same-length c = search needs
@@ -25,8 +25,8 @@ returns-2 c =
     let a = sized .before .before .before .args in
     write-image-line classes (a .profile .now) (a .out .now) (a .length .now)
     (meant .read-profile .result) (sized .if1 .left) (meant .read-profile .ensures)
-    (c .before .before .put-line .ensures)
+    (c .before .before .write-profile-line .ensures)
 
 pub write-line-image-spec : {M : Type 1} → statement M
 write-line-image-spec =
-    tie.close (tie.spec returns read-profile-requires put-line-requires same-length returns-2)
+    tie.close (tie.spec returns read-profile-requires write-profile-line-requires same-length returns-2)

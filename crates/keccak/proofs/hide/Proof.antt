@@ -2,7 +2,7 @@
 use borrow.Author.Needs.{needs}
 use mathlib.Core.List.{[], _∷_}
 use lib.ListN.{getD}
-use Rattle.keccak.specs.Planes.{reveal}
+use Rattle.keccak.specs.InnerPlanes.{reveal}
 use Rattle.keccak.proofs.hide.Statement.{statement}
 use Rattle.keccak.proofs.hide.Tie as tie
 

@@ -3,7 +3,7 @@ use borrow.Author.Needs.{needs}
 use mathlib.Core.Path.{_∙_, ap}
 use lib.ListN.{length}
 use Rattle.keccak.specs.Keccak.{lane, state, rounds}
-use Rattle.keccak.specs.Planes.{reveal}
+use Rattle.keccak.specs.InnerPlanes.{reveal}
 use Rattle.keccak.proofs.Laws.{step, keccakF-lanes}
 use Rattle.keccak.proofs.Tables.{constant-right}
 use Rattle.keccak.proofs.permute.Statement.{statement}

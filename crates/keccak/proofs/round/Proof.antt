@@ -4,7 +4,7 @@ use mathlib.Core.Path.{_∙_, ap}
 use mathlib.Core.List.{[], _∷_}
 use lib.Bits.{bitXor}
 use lib.ListN.{length}
-use Rattle.keccak.specs.Planes.{reveal, revealRow, heldPlane, planeOf, xored}
+use Rattle.keccak.specs.InnerPlanes.{reveal, revealRow, heldPlane, planeOf, xored}
 use Rattle.keccak.proofs.Laws.{sums, planes, stored}
 use Rattle.keccak.proofs.round.Statement.{statement}
 use Rattle.keccak.proofs.round.Tie as tie

@@ -50,14 +50,14 @@ roomy : (c : tie.After-again) → Room (replicate longest 0) 0 (lineOf (c .befor
 roomy c = line-room classes (c .before .before .before .scan .result) (replicate longest 0) (found-kept (c .before)) refl
 
 -- and is put there
-put-there : (c : tie.After-put-line)
-    → take (c .put-line .result) (c .put-line .last .1 .0) ≡ lineOf (c .before .before .before .before .scan .result)
-put-there c = front-taken (c .put-line .ensures) (roomy (c .before))
+put-there : (c : tie.After-append-line)
+    → take (c .append-line .result) (c .append-line .last .1 .0) ≡ lineOf (c .before .before .before .before .scan .result)
+put-there c = front-taken (c .append-line .ensures) (roomy (c .before))
 
-put-within : (c : tie.After-put-line) → c .put-line .result ≤ length (c .put-line .last .1 .0)
+put-within : (c : tie.After-append-line) → c .append-line .result ≤ length (c .append-line .last .1 .0)
 put-within c =
     let room = roomy (c .before) in
-    omega (arith, front-length (c .put-line .ensures) room, appended-length (c .put-line .ensures), room .room)
+    omega (arith, front-length (c .append-line .ensures) room, appended-length (c .append-line .ensures), room .room)
 
 -- so that the last comparison is with the line of what was scanned
 respelled : (c : tie.After-equal2) → c .equal2 .result ≡ same (lineOf (scanned (line-compared c))) (line-compared c)
@@ -102,11 +102,11 @@ returns-4 c =
     let broken = rw (c .before .before .scan .ensures) at (failing (c .before .valid .ensures) (c .if4 .taken)) in
     sym (read-broken classes line (sized fitting) (tagged begun) broken)
 
-slice-aggregate-put-line : tie.Need-slice-aggregate-put-line
-slice-aggregate-put-line c = search needs
+slice-aggregate-append-line : tie.Need-slice-aggregate-append-line
+slice-aggregate-append-line c = search needs
 
-put-line-requires : tie.Need-put-line-requires
-put-line-requires c κs = roomy c
+append-line-requires : tie.Need-append-line-requires
+append-line-requires c κs = roomy c
 
 array-share-prefix-again : tie.Need-array-share-prefix-again
 array-share-prefix-again c = put-within (c .before)
@@ -114,7 +114,7 @@ array-share-prefix-again c = put-within (c .before)
 slice-aggregate-equal-3 : tie.Need-slice-aggregate-equal-3
 slice-aggregate-equal-3 c =
     let put = c .before .before in
-    sym (length-take-le (put .put-line .result) (put .put-line .last .1 .0) (put-within put))
+    sym (length-take-le (put .append-line .result) (put .append-line .last .1 .0) (put-within put))
 
 equal-requires-2 : tie.Need-equal-requires-2
 equal-requires-2 c κs = search needs
@@ -152,8 +152,8 @@ read-line-spec =
     scan-requires
     valid-requires
     returns-4
-    slice-aggregate-put-line
-    put-line-requires
+    slice-aggregate-append-line
+    append-line-requires
     array-share-prefix-again
     slice-aggregate-equal-3
     equal-requires-2

@@ -21,15 +21,15 @@ returns-2 c =
     let a = sized .before .before .args in
     write-broken classes (a .p) (a .out .now) (sized .if1 .left) (failing (c .before .valid .ensures) (c .if2 .taken))
 
-put-line-requires : tie.Need-put-line-requires
-put-line-requires c κs =
+append-line-requires : tie.Need-append-line-requires
+append-line-requires c κs =
     let kept = c .before in
     let sized = kept .before .before in
     let a = sized .before .before .args in
     line-room classes (a .p) (a .out .now) (passing (kept .before .valid .ensures) (kept .if2 .left)) (sized .if1 .left)
 
 same-length : tie.Need-same-length
-same-length c = appended-length (c .before .before .put-line .ensures)
+same-length c = appended-length (c .before .before .append-line .ensures)
 
 returns-3 : tie.Need-returns-3
 returns-3 c =
@@ -37,8 +37,8 @@ returns-3 c =
     let kept = put .before .before in
     let sized = kept .before .before in
     let a = sized .before .before .args in
-    write-done classes (a .p) (a .out .now) (sized .if1 .left) (passing (kept .before .valid .ensures) (kept .if2 .left)) (put .put-line .ensures)
+    write-done classes (a .p) (a .out .now) (sized .if1 .left) (passing (kept .before .valid .ensures) (kept .if2 .left)) (put .append-line .ensures)
 
 pub write-line-spec : {M : Type 1} → statement M
 write-line-spec =
-    tie.close (tie.spec returns valid-requires returns-2 put-line-requires same-length returns-3)
+    tie.close (tie.spec returns valid-requires returns-2 append-line-requires same-length returns-3)

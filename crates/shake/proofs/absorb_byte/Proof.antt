@@ -5,7 +5,7 @@ use Prim.Native.Nat.{ℕ, _+_}
 use native.Mathlib.Nat.{mod-lt}
 use native.Mathlib.Omega.{arith}
 use Rattle.shake.specs.declared.Sponge.{Sponge}
-use Rattle.shake.specs.Fold.{sponge, xorByte, turned, absorbByte, absorbBytes}
+use Rattle.shake.specs.InnerFold.{sponge, xorByte, turned, absorbByte, absorbBytes}
 use Rattle.shake.proofs.Blocks.{turned-at}
 use Rattle.shake.proofs.Holds.{absorbs, bytes-one}
 use borrow.Author.Needs.{needs}

@@ -7,7 +7,7 @@ use native.Mathlib.Omega.{arith}
 use lib.ListN.{length, drop}
 use borrow.Author.Needs.{needs}
 use Rattle.keccak.specs.Keccak.{keccakF}
-use Rattle.shake.specs.Fold.{sponge, absorbBytes}
+use Rattle.shake.specs.InnerFold.{sponge, absorbBytes}
 use Rattle.shake.proofs.Lanes.{length-cut}
 use Rattle.shake.proofs.Blocks.{absorbBytes-block, absorbBytes-last}
 use Rattle.shake.proofs.absorb_part.Statement.{statement}

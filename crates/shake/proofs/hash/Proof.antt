@@ -4,7 +4,7 @@ use Prim.Native.Nat.{_-_}
 use lib.ListN.{length}
 use Rattle.keccak.proofs.Laws.{length-keccakF}
 use Rattle.shake.specs.Shake.{squeezed}
-use Rattle.shake.specs.Fold.{sponge, xorByte}
+use Rattle.shake.specs.InnerFold.{sponge, xorByte}
 use Rattle.shake.proofs.Holds.{absorbs, squeezes, holds-one}
 use borrow.Author.Needs.{needs}
 use Rattle.shake.proofs.hash.Statement.{statement}

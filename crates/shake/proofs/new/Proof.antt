@@ -1,6 +1,6 @@
 -- `new` meets its contract. Assumes nothing.
 use borrow.Author.Needs.{needs}
-use Rattle.shake.specs.Fold.{absorbBytes, fresh}
+use Rattle.shake.specs.InnerFold.{absorbBytes, fresh}
 use Rattle.shake.proofs.new.Statement.{statement}
 use Rattle.shake.proofs.new.Tie as tie
 

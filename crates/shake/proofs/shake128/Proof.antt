@@ -6,7 +6,7 @@ use lib.ListN.{length}
 use lib.Seq.{take-all}
 use Rattle.keccak.proofs.Laws.{length-keccakF}
 use Rattle.shake.specs.Shake.{squeezed, shake128}
-use Rattle.shake.specs.Fold.{sponge, xorByte, absorbBytes, fresh}
+use Rattle.shake.specs.InnerFold.{sponge, xorByte, absorbBytes, fresh}
 use Rattle.shake.proofs.Holds.{squeezes}
 use borrow.Author.Needs.{needs}
 use Rattle.shake.proofs.shake128.Statement.{statement}

@@ -5,7 +5,7 @@ use native.Mathlib.Omega.{arith}
 use lib.ListN.{length}
 use Rattle.keccak.proofs.Laws.{length-keccakF}
 use Rattle.shake.specs.Shake.{squeezed}
-use Rattle.shake.specs.Fold.{xorByte}
+use Rattle.shake.specs.InnerFold.{xorByte}
 use Rattle.shake.proofs.Holds.{squeezes}
 use borrow.Author.Needs.{needs}
 use Rattle.shake.proofs.squeeze.Statement.{statement}

@@ -4,7 +4,7 @@ use Prim.Native.Nat.{ℕ}
 use mathlib.Core.List.{List}
 use borrow.Author.Needs.{needs}
 use borrow.Author.Tests.{ne-eqb}
-use Rattle.shake.specs.Fold.{sponge, turned}
+use Rattle.shake.specs.InnerFold.{sponge, turned}
 use Rattle.shake.proofs.Blocks.{turned-full}
 use Rattle.shake.proofs.turn.Statement.{statement}
 use Rattle.shake.proofs.turn.Tie as tie

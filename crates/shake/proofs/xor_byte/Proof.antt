@@ -5,7 +5,7 @@ use native.Mathlib.Omega.{arith}
 use lib.ListN.{getD, set}
 use lib.Bits.{bitXor}
 use lib.Pow.{shl-exact}
-use Rattle.shake.specs.Fold.{xorByte}
+use Rattle.shake.specs.InnerFold.{xorByte}
 use borrow.Author.Needs.{needs}
 use Rattle.shake.proofs.xor_byte.Statement.{statement}
 use Rattle.shake.proofs.xor_byte.Tie as tie

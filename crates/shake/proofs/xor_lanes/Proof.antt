@@ -7,7 +7,7 @@ use native.Mathlib.Nat.{add-zero}
 use native.Mathlib.Omega.{arith}
 use lib.ListN.{length, take, drop}
 use lib.Seq.{drop-length}
-use Rattle.shake.specs.Fold.{xorBytes}
+use Rattle.shake.specs.InnerFold.{xorBytes}
 use Rattle.shake.proofs.Lanes.{xorBytes-cut, length-cut}
 use Rattle.shake.proofs.xor_lanes.Statement.{statement}
 use Rattle.shake.proofs.xor_lanes.Tie as tie

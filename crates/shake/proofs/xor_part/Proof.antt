@@ -6,7 +6,7 @@ use native.Mathlib.Nat.{add-zero}
 use native.Mathlib.Omega.{arith}
 use lib.ListN.{length, take, drop, length-drop}
 use lib.Seq.{take-all}
-use Rattle.shake.specs.Fold.{xorBytes}
+use Rattle.shake.specs.InnerFold.{xorBytes}
 use Rattle.shake.proofs.Lanes.{xorBytes-cut}
 use borrow.Author.Needs.{needs}
 use Rattle.shake.proofs.xor_part.Statement.{statement}

@@ -112,8 +112,8 @@ returns-5 c =
 profile-at-requires : tie.Need-profile-at-requires
 profile-at-requires c κs = search needs
 
-put-line-requires : tie.Need-put-line-requires
-put-line-requires c κs = search needs
+write-profile-line-requires : tie.Need-write-profile-line-requires
+write-profile-line-requires c κs = search needs
 
 same-length : tie.Need-same-length
 same-length c = search needs
@@ -132,7 +132,7 @@ returns-6 c =
     let it = ap (λ (p : Profile). done p) (read .profile-at .ensures) ∙ here in
     lookup-line classes (a .store .now) (a .country .now) (a .out .now) (a .class) (a .length .now)
     (set .before .before .before .if1 .left) (device-set set) (room .before .if3 .left) (room .if4 .left) _ it
-    (wrote .put-line .ensures)
+    (wrote .write-profile-line .ensures)
 
 pub lookup-spec : {M : Type 1} → statement M
 lookup-spec =
@@ -148,6 +148,6 @@ lookup-spec =
     find-key-requires
     returns-5
     profile-at-requires
-    put-line-requires
+    write-profile-line-requires
     same-length
     returns-6)

@@ -93,7 +93,7 @@ returns-4 c =
     let nowhere = searched .before .before in
     let found = nowhere .before in
     let none = nowhere .if2 .left in
-    let full = c .if4 .taken in
+    let store-full = c .if4 .taken in
     answers-full (its found) (first found) (omega arith) _ (searched .find-free .ensures) (omega arith)
 
 write-slot-requires-2 : tie.Need-write-slot-requires-2

@@ -5,7 +5,7 @@ use native.Mathlib.Omega.{arith}
 use lib.ListN.{length}
 use lib.Seq.{length-take-le}
 use borrow.Author.Needs.{needs}
-use Rattle.outcome.specs.Answer.{bad-size, bad-line, firstRefusal}
+use Rattle.outcome.specs.Answer.{bad-size, bad-profile, firstRefusal}
 use Rattle.profile.specs.Rules.{classes}
 use Rattle.profile.specs.Line.{readLine, readAnswer}
 use Rattle.scheme.specs.Verify.{verify}
@@ -180,7 +180,7 @@ returns-5 c =
     let told = c .before .before in
     let right = at-size (at-verify (passed told)) .before in
     let a = entry right .args in
-    open-line (a .p) classes (a .key .now) (a .sealed .now) (sized right) (verified (passed told)) bad-line
+    open-line (a .p) classes (a .key .now) (a .sealed .now) (sized right) (verified (passed told)) bad-profile
     (sym (ap readAnswer (c .enum-told2 .given .1)) ∙ read told)
 
 pub open-spec : {M : Type 1} → statement M

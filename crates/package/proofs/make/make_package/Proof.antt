@@ -73,7 +73,7 @@ array-share-prefix-line c =
     let call = at-write found in
     let a = entry (at-sizes call .before) .args in
     let bytes = call .write-line .last .1 .0 in
-    let short = written-short classes (a .profile) bytes (found .n .given .0 .0) (written found) in
+    let short-draw = written-short classes (a .profile) bytes (found .n .given .0 .0) (written found) in
     omega (arith, call .write-line .kept .1 .0)
 
 slice-aggregate-seal : tie.Need-slice-aggregate-seal

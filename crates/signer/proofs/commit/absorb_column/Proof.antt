@@ -5,8 +5,8 @@ use Prim.Native.Nat.{ℕ, _+_, _-_, _*_, _≤_}
 use native.Mathlib.Omega.{arith}
 use lib.ListN.{length, take, drop}
 use Rattle.outcome.specs.Lists.{flat}
-use Rattle.shake.specs.Fold.{Absorbs}
-use Rattle.signer.specs.State.{columnAt}
+use Rattle.shake.specs.InnerFold.{Absorbs}
+use Rattle.signer.specs.InnerState.{columnAt}
 use Rattle.signer.proofs.Loops.{cut, length-cut, part-within, step-on, part-at, flat-more}
 use Rattle.signer.proofs.Sponge.{absorbs-none, absorbs-more, absorbs-to}
 use Rattle.signer.proofs.commit.absorb_column.Statement.{statement}

@@ -6,8 +6,8 @@ use native.Mathlib.Omega.{arith}
 use borrow.Author.Needs.{needs}
 use Rattle.outcome.specs.Lists.{flat}
 use Rattle.shake.specs.Shake.{shake}
-use Rattle.scheme.specs.Strings.{bytesFrom, digest, string3, aggregate}
-use Rattle.signer.specs.State.{columnAt}
+use Rattle.scheme.specs.Strings.{bytesFrom, digest, allCommitments0String, aggregate}
+use Rattle.signer.specs.InnerState.{columnAt}
 use Rattle.signer.proofs.Sponge.{rate-of}
 use Rattle.signer.proofs.commit.aggregate_states.Statement.{statement}
 use Rattle.signer.proofs.commit.aggregate_states.Tie as tie
@@ -32,7 +32,7 @@ same-length : tie.Need-same-length
 same-length c = search needs
 
 returns : tie.Need-returns
-unfolding aggregate digest bytesFrom string3
+unfolding aggregate digest bytesFrom allCommitments0String
 returns c =
     let after-hash = c .before .before in
     let sized = after-hash .before .before .before in

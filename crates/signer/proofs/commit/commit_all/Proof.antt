@@ -14,7 +14,7 @@ use Rattle.outcome.specs.Lists.{flat}
 use Rattle.outcome.proofs.Checks.{passed-front}
 use Rattle.scheme.specs.Round.{roundDraws}
 use Rattle.scheme.specs.Sign.{seedDraws}
-use Rattle.signer.specs.State.{seedAt, roundState}
+use Rattle.signer.specs.InnerState.{seedAt, roundState}
 use Rattle.signer.proofs.Written.{Written, written-none, written-next, written-length, written-end, part-length}
 use Rattle.signer.proofs.Loops.{part-within, step-on, part-at, flat-more, flat-refused}
 use Rattle.signer.proofs.Rounds.{not-drawn, state-of}

@@ -12,7 +12,7 @@ use Rattle.packing.specs.Packing.{pack, digits}
 use Rattle.linear.specs.Linear.{transformation, scaled, syndrome}
 use Rattle.linear.proofs.Kept.{kept-below}
 use Rattle.linear.proofs.Ranges.{below-transformation, below-scaled, below-syndrome}
-use Rattle.scheme.specs.Strings.{bytesFrom, digest, string0}
+use Rattle.scheme.specs.Strings.{bytesFrom, digest, commitment0String}
 use Rattle.expand.proofs.Lent.{Lent, lent-within, lent-length, lent-part}
 use Rattle.signer.proofs.Sponge.{rate-of}
 use Rattle.signer.proofs.commit.commit_syndrome.Statement.{statement}
@@ -184,7 +184,7 @@ same-length : tie.Need-same-length
 same-length c = search needs
 
 returns : tie.Need-returns
-unfolding digest bytesFrom string0
+unfolding digest bytesFrom commitment0String
 returns c =
     let after-commit = c .before .before in
     let after-syndrome = after-commit .before .before .before .before .before in

@@ -8,9 +8,9 @@ use lib.ListN.{replicate}
 use lib.Seq.{length-take-le}
 use Rattle.outcome.specs.Lists.{flat}
 use Rattle.shake.specs.Shake.{shake}
-use Rattle.scheme.specs.Strings.{bytesFrom, digest, string4, string5, joined}
+use Rattle.scheme.specs.Strings.{bytesFrom, digest, allCommitments1String, commitmentsString, joined}
 use Rattle.expand.proofs.Lent.{Lent, lent-within, lent-length, lent-hash}
-use Rattle.signer.specs.State.{columnAt}
+use Rattle.signer.specs.InnerState.{columnAt}
 use Rattle.signer.proofs.Sponge.{rate-of}
 use Rattle.signer.proofs.commit.join_states.Statement.{statement}
 use Rattle.signer.proofs.commit.join_states.Tie as tie
@@ -64,7 +64,7 @@ same-length : tie.Need-same-length
 same-length c = search needs
 
 returns : tie.Need-returns
-unfolding joined digest bytesFrom string4 string5
+unfolding joined digest bytesFrom allCommitments1String commitmentsString
 returns c =
     let after-hash2 = c .before .before in
     let after-hash = after-hash2 .before .before .before .before in

@@ -9,7 +9,7 @@ use lib.ListN.{length, drop}
 use lib.Seq.{length-take-le}
 use Rattle.shake.specs.Shake.{shake}
 use Rattle.packing.specs.Packing.{pack, digits}
-use Rattle.scheme.specs.Strings.{bytesFrom, digest, string1}
+use Rattle.scheme.specs.Strings.{bytesFrom, digest, commitment1String}
 use Rattle.signer.proofs.Written.{
   Written,
   written-first,
@@ -160,7 +160,7 @@ same-length : tie.Need-same-length
 same-length c = search needs
 
 returns : tie.Need-returns
-unfolding digest bytesFrom string1
+unfolding digest bytesFrom commitment1String
 returns c =
     let after-commit = c .before .before in
     let after-commit-syndrome = after-commit .before .before .before .before in

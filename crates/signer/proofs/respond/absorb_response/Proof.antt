@@ -7,7 +7,7 @@ use borrow.Author.Needs.{needs}
 use lib.ListN.{replicate}
 use lib.Seq.{length-take-le}
 use Rattle.shake.specs.Shake.{shake}
-use Rattle.scheme.specs.Strings.{bytesFrom, digest, string2}
+use Rattle.scheme.specs.Strings.{bytesFrom, digest, responseString}
 use Rattle.expand.proofs.Lent.{Lent, lent-within, lent-length, lent-part, lent-hash}
 use Rattle.signer.proofs.Sponge.{absorbs-to, rate-of}
 use Rattle.signer.proofs.respond.absorb_response.Statement.{statement}
@@ -79,7 +79,7 @@ absorb-requires c κs =
     start .pre .1
 
 returns : tie.Need-returns
-unfolding digest bytesFrom string2
+unfolding digest bytesFrom responseString
 returns c =
     let after-hash1 = c .before .before .before in
     let after-pack-response = after-hash1 .before .before .before .before in

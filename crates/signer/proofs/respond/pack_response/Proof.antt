@@ -11,7 +11,7 @@ use Rattle.linear.specs.Linear.{response}
 use Rattle.linear.proofs.Kept.{kept-below}
 use Rattle.linear.proofs.Ranges.{below-response}
 use Rattle.expand.proofs.Lent.{Lent, lent-within, lent-length, lent-part}
-use Rattle.signer.specs.State.{responseOf, valuesOf, exponentsOf}
+use Rattle.signer.specs.InnerState.{responseOf, valuesOf, exponentsOf}
 use Rattle.signer.proofs.Loops.{cut}
 use Rattle.signer.proofs.respond.pack_response.Statement.{statement}
 use Rattle.signer.proofs.respond.pack_response.Tie as tie

@@ -7,10 +7,10 @@ use borrow.Author.Needs.{needs}
 use lib.ListN.{length, take, drop, getD}
 use Rattle.outcome.specs.Lists.{flat}
 use Rattle.packing.proofs.Below.{below, below-at}
-use Rattle.shake.specs.Fold.{Holds}
+use Rattle.shake.specs.InnerFold.{Holds}
 use Rattle.shake.specs.Shake.{shake}
-use Rattle.scheme.specs.Strings.{bytesFrom, digest, string2, string6}
-use Rattle.signer.specs.State.{State, stateAt, responseOf, hAt, hOf}
+use Rattle.scheme.specs.Strings.{bytesFrom, digest, responseString, allResponsesString}
+use Rattle.signer.specs.InnerState.{State, stateAt, responseOf, hAt, hOf}
 use Rattle.signer.proofs.Loops.{part-within, step-on, part-at, flat-more}
 use Rattle.signer.proofs.Sponge.{holds-to, rate-of}
 use Rattle.signer.proofs.respond.respond_all.Statement.{statement}
@@ -110,7 +110,7 @@ loop-again c =
     let a = sized .before .before .before .before .args in
     let digests : ℕ → List ℕ = λ i. hAt (a .p) (a .states .now) (a .betas .now) i in
     let own =
-    ap (λ (s : List ℕ). digest (a .p) (string2 (responseOf (a .p) (getD (a .betas .now) (now .j) 0) s)))
+    ap (λ (s : List ℕ). digest (a .p) (responseString (responseOf (a .p) (getD (a .betas .now) (now .j) 0) s)))
     (own-state in-loop)
     in (
       omega arith,
@@ -127,7 +127,7 @@ same-length : tie.Need-same-length Inv-loop μ-loop
 same-length c = c .before .before .squeeze .kept .1 .0
 
 returns : tie.Need-returns Inv-loop μ-loop
-unfolding hOf digest bytesFrom string6
+unfolding hOf digest bytesFrom allResponsesString
 returns c =
     let after-squeeze = c .before .before in
     let at-loop = after-squeeze .before .before .before in

@@ -14,7 +14,7 @@ use Rattle.scheme.specs.Sign.{secondDrawn, secondChallenges}
 use Rattle.scheme.specs.Verify.{offset}
 use Rattle.scheme.proofs.Challenges.{second-fills}
 use Rattle.expand.proofs.Lent.{Lent, lent-within, lent-length, lent-part}
-use Rattle.signer.specs.State.{hOf, partAt}
+use Rattle.signer.specs.InnerState.{hOf, partAt}
 use Rattle.signer.proofs.sign.reply.Statement.{statement}
 use Rattle.signer.proofs.sign.reply.Tie as tie
 
@@ -83,11 +83,11 @@ returns c =
     let after-respond-all = after-second-challenges .before .before .before .before in
     let start = after-respond-all .before .before .before .before .before .before .before .before .before .before in
     let a = start .args in
-    let short = ap (λ (h : List ℕ). secondDrawn (a .p) (a .c .now) (a .betas .now) h (a .salt .now) (a .msg .now))
+    let short-draw = ap (λ (h : List ℕ). secondDrawn (a .p) (a .c .now) (a .betas .now) h (a .salt .now) (a .msg .now))
     (sym (h-held after-respond-all))
     ∙ sym (after-second-challenges .second-challenges .ensures .answer)
     ∙ not-true (after-second-challenges .second-challenges .result) (c .if1 .taken) in
-    refused 1 (rw short) refl
+    refused 1 (rw short-draw) refl
 
 b-lent : (c : tie.After-second-challenges) →
     let after-respond-all = c .before .before .before .before in

@@ -13,12 +13,12 @@ use Rattle.outcome.specs.Lists.{flat}
 use Rattle.outcome.proofs.Checks.{refused}
 use Rattle.shake.specs.Shake.{shake}
 use Rattle.linear.proofs.Kept.{kept-below}
-use Rattle.scheme.specs.Strings.{bytesFrom, string9, joined}
+use Rattle.scheme.specs.Strings.{bytesFrom, roundSeedsString, joined}
 use Rattle.scheme.specs.Sign.{roundSeeds, seedDraws}
 use Rattle.scheme.specs.Sign as sign
 use Rattle.scheme.proofs.Challenges.{below-first}
 use Rattle.expand.proofs.Lent.{Lent, lent-within, lent-length, lent-part}
-use Rattle.signer.specs.State.{seedAt, c1s, roundState}
+use Rattle.signer.specs.InnerState.{seedAt, c1s, roundState}
 use Rattle.signer.proofs.Signed.{states-good, root-is, c-is, rounds-short, first-short, replied, seeded}
 use Rattle.signer.proofs.Sponge.{rate-of}
 use Rattle.signer.proofs.sign.sign_with.Statement.{statement}
@@ -28,7 +28,7 @@ use Rattle.signer.proofs.sign.sign_with.Tie as tie
 seeds-are : (c : tie.After-hash2) →
     let start = c .before .before .before .before .before .before .before .before .before .before in
     c .hash2 .last .1 .1 .1 .1 .0 ≡ roundSeeds (start .args .p) (start .args .master .now) (start .args .salt .now)
-unfolding roundSeeds bytesFrom string9
+unfolding roundSeeds bytesFrom roundSeedsString
 seeds-are c =
     let start = c .before .before .before .before .before .before .before .before .before .before in
     let a = start .args in

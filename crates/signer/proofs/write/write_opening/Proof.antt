@@ -12,7 +12,7 @@ use Rattle.linear.specs.Linear.{transformation}
 use Rattle.linear.proofs.Kept.{kept-below}
 use Rattle.linear.proofs.Ranges.{below-transformation}
 use Rattle.expand.proofs.Lent.{Lent, lent-within, lent-length, lent-part}
-use Rattle.signer.specs.State.{exponentsOf}
+use Rattle.signer.specs.InnerState.{exponentsOf}
 use Rattle.signer.proofs.Written.{
   Written,
   written-first,

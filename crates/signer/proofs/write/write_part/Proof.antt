@@ -7,7 +7,7 @@ use borrow.Author.Tests.{eq-eqb, ne-eqb}
 use Rattle.outcome.specs.Answer.{pick}
 use Rattle.packing.specs.Packing.{size}
 use Rattle.scheme.specs.Sign.{partSize}
-use Rattle.signer.specs.State.{partOf}
+use Rattle.signer.specs.InnerState.{partOf}
 use Rattle.signer.proofs.write.write_part.Statement.{statement}
 use Rattle.signer.proofs.write.write_part.Tie as tie
 

@@ -11,7 +11,7 @@ use Rattle.packing.proofs.Below.{below, below-at}
 use Rattle.scheme.specs.Sign.{partSize}
 use Rattle.scheme.specs.Verify.{offset}
 use Rattle.scheme.proofs.Challenges.{total-within}
-use Rattle.signer.specs.State.{State, stateAt, seedAt, partOf, partAt}
+use Rattle.signer.specs.InnerState.{State, stateAt, seedAt, partOf, partAt}
 use Rattle.signer.proofs.Written.{Written, written-none, written-next, written-length, written-end, part-length}
 use Rattle.signer.proofs.Loops.{length-cut, part-within, step-on, part-at, flat-more, total-more}
 use Rattle.signer.proofs.write.write_parts.Statement.{statement}

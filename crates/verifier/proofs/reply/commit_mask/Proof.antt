@@ -7,7 +7,7 @@ use borrow.Author.Needs.{needs}
 use lib.ListN.{replicate}
 use Rattle.packing.specs.Packing.{size}
 use Rattle.expand.proofs.Lent.{Lent, part-length, lent-within, lent-length, lent-part}
-use Rattle.scheme.specs.Strings.{string1}
+use Rattle.scheme.specs.Strings.{commitment1String}
 use Rattle.verifier.proofs.Hashed.{hashed}
 use Rattle.verifier.proofs.reply.commit_mask.Statement.{statement}
 use Rattle.verifier.proofs.reply.commit_mask.Tie as tie
@@ -106,7 +106,7 @@ same-length : tie.Need-same-length
 same-length c = search needs
 
 returns : tie.Need-returns
-unfolding string1
+unfolding commitment1String
 returns c =
     let at-hash4 = c .before .before in
     let at-round-number = at-hash4 .before .before .before .before .before in

@@ -7,7 +7,7 @@ use borrow.Author.Needs.{needs}
 use lib.ListN.{replicate}
 use Rattle.packing.specs.Packing.{size}
 use Rattle.expand.proofs.Lent.{Lent, part-length, lent-within, lent-length, lent-part}
-use Rattle.scheme.specs.Strings.{string2}
+use Rattle.scheme.specs.Strings.{responseString}
 use Rattle.verifier.proofs.Hashed.{hashed}
 use Rattle.verifier.proofs.reply.commit_response.Statement.{statement}
 use Rattle.verifier.proofs.reply.commit_response.Tie as tie
@@ -52,7 +52,7 @@ same-length : tie.Need-same-length
 same-length c = search needs
 
 returns : tie.Need-returns
-unfolding string2
+unfolding responseString
 returns c =
     let at-hash1 = c .before .before in
     let at-pack-values = at-hash1 .before .before .before .before in

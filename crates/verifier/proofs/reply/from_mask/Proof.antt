@@ -8,7 +8,7 @@ use lib.ListN.{replicate}
 use lib.Seq.{length-take-le}
 use Rattle.linear.proofs.Sizes.{length-response}
 use Rattle.linear.proofs.Ranges.{below-response}
-use Rattle.scheme.specs.Strings.{digest, string2}
+use Rattle.scheme.specs.Strings.{digest, responseString}
 use Rattle.expand.proofs.Lent.{Lent, part-length, lent-within, lent-length, lent-part}
 use Rattle.verifier.proofs.Vectors.{made}
 use Rattle.verifier.proofs.Halves.{Half, half-long, rest-long, halves, halves-long}
@@ -111,7 +111,7 @@ returns c =
     let p = start .args .p in
     let first = at-commit-mask .commit-mask .ensures in
     let second = at-commit-response .commit-response .ensures
-    ∙ ap (λ (ys : List ℕ). digest p (string2 ys)) (lent-part (lent at-respond) ∙ at-respond .respond .ensures) in
+    ∙ ap (λ (ys : List ℕ). digest p (responseString ys)) (lent-part (lent at-respond) ∙ at-respond .respond .ensures) in
     halves (half at-commit-mask) (at-commit-response .commit-response .last .1 .1 .0)
     (at-commit-response .commit-response .kept .1 .1 .0) ∙ (λ i. first i ++ second i)
 

@@ -12,7 +12,7 @@ use Rattle.linear.specs.Linear.{syndrome, lessTimes}
 use Rattle.linear.proofs.Sizes.{length-scaled, length-syndrome}
 use Rattle.linear.proofs.Ranges.{below-scaled, below-syndrome}
 use Rattle.expand.proofs.Lent.{Lent, part-length, lent-within, lent-length, lent-part}
-use Rattle.packing.specs.Vector.{Vector}
+use Rattle.packing.specs.InnerVector.{Vector}
 use Rattle.verifier.proofs.Vectors.{made}
 use Rattle.verifier.proofs.reply.reply_syndrome.Statement.{statement}
 use Rattle.verifier.proofs.reply.reply_syndrome.Tie as tie

@@ -1,6 +1,6 @@
 -- `begin`: each sponge holds its tag. Assumes nothing.
 use borrow.Author.Needs.{needs}
-use Rattle.scheme.specs.Strings.{string3, string4, string6}
+use Rattle.scheme.specs.Strings.{allCommitments0String, allCommitments1String, allResponsesString}
 use Rattle.verifier.proofs.rounds.begin.Statement.{statement}
 use Rattle.verifier.proofs.rounds.begin.Tie as tie
 
@@ -14,7 +14,7 @@ tagged-requires-3 : tie.Need-tagged-requires-3
 tagged-requires-3 c κs = search needs
 
 returns : tie.Need-returns
-unfolding string3 string4 string6
+unfolding allCommitments0String allCommitments1String allResponsesString
 returns c =
     let at-tagged2 = c .before in
     let at-tagged = at-tagged2 .before in

@@ -5,9 +5,9 @@ use Prim.Native.Nat.{ℕ}
 use borrow.Author.Needs.{needs}
 use borrow.Author.Tests.{not-true, not-false}
 use lib.ListN.{length, take, drop, replicate}
-use Rattle.scheme.specs.Strings.{digest, aggregate, joined, string3, string4, string5, string6}
+use Rattle.scheme.specs.Strings.{digest, aggregate, joined, allCommitments0String, allCommitments1String, commitmentsString, allResponsesString}
 use Rattle.expand.proofs.Lent.{Lent, part-length, lent-within, lent-length, lent-part}
-use Rattle.verifier.specs.Rounds.{HoldAll}
+use Rattle.verifier.specs.InnerRounds.{HoldAll}
 use Rattle.verifier.proofs.Hashed.{hashed}
 use Rattle.verifier.proofs.Comparing.{c-differs, h-differs, none-differs}
 use Rattle.verifier.proofs.rounds.compare.Statement.{statement}
@@ -97,7 +97,7 @@ committed : (c : tie.After-hash2) {c0s c1s hs : List ℕ} →
     → take (entry-hash2 c .args .p .digest) (c .hash2 .last .1 .1 .1 .1 .0
     ++ drop (entry-hash2 c .args .p .digest) (replicate 64 0))
     ≡ joined (entry-hash2 c .args .p) (aggregate (entry-hash2 c .args .p) c0s) c1s
-unfolding aggregate joined string5
+unfolding aggregate joined commitmentsString
 committed c {c0s} {c1s} holds =
     let at-squeeze2 = c .before .before .before .before .before in
     let at-squeeze = at-squeeze2 .before .before .before in
@@ -105,11 +105,11 @@ committed c {c0s} {c1s} holds =
     let p = start .args .p in
     let sized = sym (long start) in
     let c0 =
-    lent-part (c0-lent at-squeeze) ∙ hashed p (at-squeeze .squeeze .ensures .holds (holds .c0)) (λ i. string3 c0s) sized
+    lent-part (c0-lent at-squeeze) ∙ hashed p (at-squeeze .squeeze .ensures .holds (holds .c0)) (λ i. allCommitments0String c0s) sized
     in
     let c1 =
     lent-part (c1-lent at-squeeze2) ∙ hashed p (at-squeeze2 .squeeze2 .ensures .holds (holds .c1))
-    (λ i. string4 c1s) sized
+    (λ i. allCommitments1String c1s) sized
     in
     lent-part (made-lent c) ∙ hashed p (c .hash2 .ensures) (λ i. 5 ∷ c0 i ++ c1 i) sized
 
@@ -156,10 +156,10 @@ slice-aggregate-hash c = lent-length (hs-lent (c .before .before))
 hashes : (c : tie.After-squeeze3) {c0s c1s hs : List ℕ} →
     HoldAll (entry-squeeze3 c .args .sponges) (entry-squeeze3 c .args .p .rate) c0s c1s hs
     → take (entry-squeeze3 c .args .p .digest) (c .squeeze3 .last .1 .0
-    ++ drop (entry-squeeze3 c .args .p .digest) (replicate 64 0)) ≡ digest (entry-squeeze3 c .args .p) (string6 hs)
+    ++ drop (entry-squeeze3 c .args .p .digest) (replicate 64 0)) ≡ digest (entry-squeeze3 c .args .p) (allResponsesString hs)
 hashes c {c0s} {c1s} {hs} holds =
     let start = entry-squeeze3 c in
-    lent-part (hs-lent c) ∙ hashed (start .args .p) (c .squeeze3 .ensures .holds (holds .h)) (λ i. string6 hs)
+    lent-part (hs-lent c) ∙ hashed (start .args .p) (c .squeeze3 .ensures .holds (holds .h)) (λ i. allResponsesString hs)
     (sym (long start))
 
 equal-requires-2 : tie.Need-equal-requires-2

@@ -7,10 +7,10 @@ use borrow.Author.Needs.{needs}
 use borrow.Author.Tests.{eq-eqb, ne-eqb}
 use lib.ListN.{length, take, drop, replicate}
 use lib.Seq.{length-take-le}
-use Rattle.shake.specs.Fold.{Absorbs}
+use Rattle.shake.specs.InnerFold.{Absorbs}
 use Rattle.scheme.specs.Round.{replySize}
 use Rattle.expand.proofs.Lent.{Lent, part-length, lent-within, lent-length, lent-part}
-use Rattle.verifier.specs.Recomputed.{Recomputed}
+use Rattle.verifier.specs.InnerRecomputed.{Recomputed}
 use Rattle.verifier.proofs.Halves.{tail}
 use Rattle.verifier.proofs.Stepping.{pick-true, pick-false, step-stops, stepped}
 use Rattle.verifier.proofs.rounds.step.Statement.{statement}

@@ -12,7 +12,7 @@ use Rattle.outcome.specs.Answer.{firstRefusal}
 use Rattle.scheme.specs.Sign.{firstChallenges, firstDrawn, secondChallenges, partSize}
 use Rattle.scheme.specs.Verify.{pieceChecks, saltOf, cOf, hOf, roundsOf}
 use Rattle.expand.proofs.Lent.{Lent, part-length, lent-within, lent-length, lent-part}
-use Rattle.packing.specs.Vector.{Vector}
+use Rattle.packing.specs.InnerVector.{Vector}
 use Rattle.verifier.proofs.Halves.{tail}
 use Rattle.verifier.proofs.Running.{all-ready}
 use Rattle.verifier.proofs.Pieces.{first-short, second-short, first-vector, Drawn, second-long, offset-all, rounds-stop, compared}

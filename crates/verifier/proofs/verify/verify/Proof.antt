@@ -12,8 +12,8 @@ use Rattle.outcome.specs.Answer.{Check, firstRefusal}
 use Rattle.scheme.specs.Key.{keySize, keyFields, seedOf, syndromeOf, matrix, matrixDrawn, matrixCount}
 use Rattle.scheme.specs.Verify.{verifySizes, verifyChecks, verify, pieceChecks, saltOf, cOf, hOf, roundsOf}
 use Rattle.expand.proofs.Lent.{Lent, part-length, lent-within, lent-length, lent-part}
-use Rattle.packing.specs.Vector.{Vector}
-use Rattle.verifier.proofs.Answering.{stops, goes-on}
+use Rattle.packing.specs.InnerVector.{Vector}
+use Rattle.outcome.proofs.Answering.{stops, goes-on}
 use Rattle.verifier.proofs.Keys.{syndrome-read, matrix-vector, count-fits}
 use Rattle.verifier.proofs.Steps.{key-long, sig-long}
 use Rattle.verifier.proofs.Vectors.{same-vector}
