@@ -25,7 +25,9 @@ pub fn hash1(rate: usize, tag: u8, a: &[u8], out: &mut [u8])
 
 pub fn hash2(rate: usize, tag: u8, a: &[u8], b: &[u8], out: &mut [u8])
     requires { ⌜ Rate rate ⌝ }
-    ensures { λ r. ⌜ now (out .exit) ≡ shake rate (tag ∷ now (a .entry) ++ now (b .entry)) (length (now (out .entry))) ⌝ }
+    ensures { λ r.
+        ⌜ now (out .exit) ≡ shake rate (tag ∷ now (a .entry) ++ now (b .entry))
+        (length (now (out .entry))) ⌝ }
 {
     let none = [0u8; 0];
     shake::hash(rate, tag, a, b, &none, &none, out);
@@ -33,7 +35,9 @@ pub fn hash2(rate: usize, tag: u8, a: &[u8], b: &[u8], out: &mut [u8])
 
 pub fn hash3(rate: usize, tag: u8, a: &[u8], b: &[u8], c: &[u8], out: &mut [u8])
     requires { ⌜ Rate rate ⌝ }
-    ensures { λ r. ⌜ now (out .exit) ≡ shake rate (tag ∷ now (a .entry) ++ now (b .entry) ++ now (c .entry)) (length (now (out .entry))) ⌝ }
+    ensures { λ r.
+        ⌜ now (out .exit) ≡ shake rate (tag ∷ now (a .entry) ++ now (b .entry) ++ now (c .entry))
+        (length (now (out .entry))) ⌝ }
 {
     let none = [0u8; 0];
     shake::hash(rate, tag, a, b, c, &none, out);
@@ -41,14 +45,19 @@ pub fn hash3(rate: usize, tag: u8, a: &[u8], b: &[u8], c: &[u8], out: &mut [u8])
 
 pub fn hash4(rate: usize, tag: u8, a: &[u8], b: &[u8], c: &[u8], d: &[u8], out: &mut [u8])
     requires { ⌜ Rate rate ⌝ }
-    ensures { λ r. ⌜ now (out .exit) ≡ shake rate (tag ∷ now (a .entry) ++ now (b .entry) ++ now (c .entry) ++ now (d .entry)) (length (now (out .entry))) ⌝ }
+    ensures { λ r.
+        ⌜ now (out .exit) ≡ shake rate (tag ∷ now (a .entry) ++ now (b .entry) ++ now (c .entry) ++ now (d .entry))
+        (length (now (out .entry))) ⌝ }
 {
     shake::hash(rate, tag, a, b, c, d, out);
 }
 
 pub fn hash5(rate: usize, tag: u8, a: &[u8], b: &[u8], c: &[u8], d: &[u8], e: &[u8], out: &mut [u8])
     requires { ⌜ Rate rate ⌝ }
-    ensures { λ r. ⌜ now (out .exit) ≡ shake rate (tag ∷ now (a .entry) ++ now (b .entry) ++ now (c .entry) ++ now (d .entry) ++ now (e .entry)) (length (now (out .entry))) ⌝ }
+    ensures { λ r.
+        ⌜ now (out .exit) ≡ shake rate
+        (tag ∷ now (a .entry) ++ now (b .entry) ++ now (c .entry) ++ now (d .entry) ++ now (e .entry))
+        (length (now (out .entry))) ⌝ }
 {
     let s = shake::absorb(shake::absorb(tagged(rate, tag), a), b);
     let t = shake::absorb(shake::absorb(s, c), d);

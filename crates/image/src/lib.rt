@@ -37,7 +37,8 @@ pub fn read_line_image(line: &[u8], profile: &mut [u8]) -> u8
 // Writes the line of a profile, and its length.
 pub fn write_profile_line(p: Profile, out: &mut [u8], length: &mut usize) -> u8
     ensures { λ r.
-        ⌜ WritesProfileLine classes p (now (out .entry)) (now (length .entry)) r (now (out .exit)) (now (length .exit)) ⌝ }
+        ⌜ WritesProfileLine classes p (now (out .entry)) (now (length .entry)) r
+        (now (out .exit)) (now (length .exit)) ⌝ }
 {
     match write_line(p, out) {
         WriteLine::Written(n) => {

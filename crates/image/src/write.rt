@@ -8,7 +8,8 @@ ghost use mathlib.Core.Path.{_≡_};
 ghost use Prim.Native.Nat.{_+_, _≤_, _%_};
 ghost use lib.ListN.{length};
 ghost use Rattle.decimal.specs.Decimal.{Appended};
-ghost use Rattle.image.specs.Image.{profileSize, word, headImage, ratingsImage, tripImage, tripsImage, TripFits, TripsFit, ProfileWritten};
+ghost use Rattle.image.specs.Image.{profileSize, word, headImage, ratingsImage, tripImage, tripsImage};
+ghost use Rattle.image.specs.Image.{TripFits, TripsFit, ProfileWritten};
 
 fn low(n: u32) -> u8
     ensures { λ r. ⌜ r ≡ n % 256 ⌝ }

@@ -9,7 +9,8 @@ ghost use mathlib.Core.Path.{_≡_};
 ghost use mathlib.Core.Bool.{_&&_};
 ghost use mathlib.Core.List.{[], _∷_};
 ghost use lib.ListN.{take, drop};
-ghost use Rattle.profile.specs.Rules.{_to_, contains, kindOf, sizeOf, number, tripFields, fieldsOf, tripRules, rules, obeys, classes, classIn, isClass, letters};
+ghost use Rattle.profile.specs.Rules.{_to_, contains, kindOf, sizeOf, number, tripFields, fieldsOf, tripRules};
+ghost use Rattle.profile.specs.Rules.{rules, obeys, classes, classIn, isClass, letters};
 ghost use Rattle.profile.specs.Rules.{valid as validUnder};
 
 // What the number of a field is.

@@ -5,7 +5,8 @@ ghost use Prim.Native.Nat.{_+_, _-_, _*_, _%_, _<_, _≤_};
 ghost use lib.ListN.{length, take};
 ghost use Rattle.keccak.specs.Keccak.{keccakF};
 ghost use Rattle.shake.specs.Shake.{little, lowBytes, bytesOf, squeezed, shake, shake128 as shake128Of};
-ghost use Rattle.shake.specs.InnerFold.{sponge as spongeOf, xorByte, xorBytes, turned, absorbBytes, Rate, Ready, Holds, Absorbs, Squeezes};
+ghost use Rattle.shake.specs.InnerFold.{sponge as spongeOf, xorByte, xorBytes, turned, absorbBytes};
+ghost use Rattle.shake.specs.InnerFold.{Rate, Ready, Holds, Absorbs, Squeezes};
 
 // The state, the place of the next byte in the block, and the size of a block in bytes.
 pub struct Sponge {
@@ -105,7 +106,9 @@ fn xor_part(lanes: &mut [u64; 25], at: usize, part: &[u8])
 // Fills block after block and permutes each; the last one keeps room. Returns the place of the next byte.
 fn absorb_part(lanes: &mut [u64; 25], at: usize, rate: usize, part: &[u8]) -> usize
     requires { ⌜ (at < rate) × (rate < 200) ⌝ }
-    ensures { λ r. ⌜ (spongeOf (now (lanes .exit)) r rate ≡ absorbBytes (spongeOf (now (lanes .entry)) at rate) (now (part .entry))) × (r < rate) ⌝ }
+    ensures { λ r.
+        ⌜ (spongeOf (now (lanes .exit)) r rate ≡ absorbBytes (spongeOf (now (lanes .entry)) at rate) (now (part .entry)))
+        × (r < rate) ⌝ }
 {
     let n = part.len();
     let mut next = at;
@@ -233,7 +236,9 @@ pub fn shake128(input: &[u8], out: &mut [u8])
 // A tag byte and four parts in one call, which spares the copies of a sponge by value. A part may be empty.
 pub fn hash(rate: usize, tag: u8, a: &[u8], b: &[u8], c: &[u8], d: &[u8], out: &mut [u8])
     requires { ⌜ Rate rate ⌝ }
-    ensures { λ r. ⌜ now (out .exit) ≡ shake rate (tag ∷ now (a .entry) ++ now (b .entry) ++ now (c .entry) ++ now (d .entry)) (length (now (out .entry))) ⌝ }
+    ensures { λ r.
+        ⌜ now (out .exit) ≡ shake rate (tag ∷ now (a .entry) ++ now (b .entry) ++ now (c .entry) ++ now (d .entry))
+        (length (now (out .entry))) ⌝ }
 {
     let mut lanes = [0u64; 25];
     xor_byte(&mut lanes, 0, tag);

@@ -10,7 +10,8 @@ ghost use mathlib.Core.Path.{_≡_};
 ghost use Prim.Native.Nat.{_<_};
 ghost use lib.ListN.{length};
 ghost use Rattle.image.specs.Image.{profileSize, profileOf};
-ghost use Rattle.store.specs.Stored.{capacity, storeSize, slotOf, slotsOf, slotBytes, SlotWritten, isFree, holding, firstSlot};
+ghost use Rattle.store.specs.Stored.{capacity, storeSize, slotOf, slotsOf, slotBytes, SlotWritten};
+ghost use Rattle.store.specs.Stored.{isFree, holding, firstSlot};
 
 // The slot holds a profile of the key.
 fn slot_holds(slot: &[u8], key: Key) -> bool

@@ -30,7 +30,8 @@ pub struct Round {
 // c1(i): mask values and mask exponents, packed.
 fn commit_mask(p: Params, us: &[u8], es: &[u8], salt: &[u8], i: usize, out: &mut [u8])
     requires { ⌜ Sound p × Vector 127 (p .n) (now us) × Vector 7 (p .n) (now es) × (length (now out) ≡ p .digest) ⌝ }
-    ensures { λ _. ⌜ now (out .exit) ≡ digest p (commitment1String (now (us .entry)) (now (es .entry)) (now (salt .entry)) i) ⌝ }
+    ensures { λ _.
+        ⌜ now (out .exit) ≡ digest p (commitment1String (now (us .entry)) (now (es .entry)) (now (salt .entry)) i) ⌝ }
 {
     let u = packing::packed_size(p.n, 7);
     let e = packing::packed_size(p.n, 3);

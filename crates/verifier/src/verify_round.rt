@@ -45,8 +45,8 @@ fn sizes(
 ) -> u8
     requires { ⌜ Sound p ⌝ }
     ensures { λ r.
-        ⌜ r ≡ firstRefusal (verifyRoundSizes p (now (key .entry)) (now (salt .entry)) (now (c0 .entry)) (now (c1 .entry))
-        (now (h .entry)) challenge (now (reply .entry))) ⌝ }
+        ⌜ r ≡ firstRefusal (verifyRoundSizes p (now (key .entry)) (now (salt .entry)) (now (c0 .entry))
+        (now (c1 .entry)) (now (h .entry)) challenge (now (reply .entry))) ⌝ }
 {
     let d = p.digest;
     if key.len() != scheme::key_size(p) {
