@@ -11,13 +11,14 @@ use Rattle.outcome.specs.Result.{done}
 use Rattle.parameters.specs.declared.Params.{Params}
 use Rattle.profile.specs.declared.Profile.{Profile}
 use Rattle.profile.specs.Rules.{Class}
+use Rattle.profile.specs.Line.{readLine}
 use Rattle.scheme.specs.Key.{keySize}
 use Rattle.scheme.specs.Duty.{OpensKey, Excuses, committed, responded}
 use Rattle.scheme.specs.Entries.{MakesKey, Signs, Verifies, VerifiesRound}
 use Rattle.store.specs.Keys.{keyOf, deviceOf}
 use Rattle.store.specs.Stored.{capacity, storeSize, stored, find, isStored}
 use Rattle.store.specs.Calls.{lookupIn, newer}
-use Rattle.package.specs.Entries.{MakesPackage, Loads}
+use Rattle.package.specs.Entries.{MakesFromLine, Loads}
 use Rattle.duty.specs.declared.Signed.{Signed}
 use Rattle.duty.specs.declared.FourRounds.{FourRounds}
 use Rattle.duty.specs.declared.Loaded.{Loaded}
@@ -53,20 +54,21 @@ module _ (p : Params) where
         ⊎ (Excuses p (responded p salt i β 0 r0) (responded p salt i β 1 r1)
         ⊎ Excuses p (responded p salt i β′ 0 r0′) (responded p salt i β′ 1 r1′))))
 
-  -- A key is made, a package is made of a profile into what was lent, and what was made is loaded into a store under that
-  -- key, for a device that is set to a country and class: each answer is its entry's on these very arguments.
-  pub record MakesAndLoads (table : List Class) (private master salt : List ℕ) (profile : Profile) (country : List ℕ)
-      (class : ℕ) (store old : List ℕ) (r : Loaded) (store′ out : List ℕ) : Type 0 where
+  -- A key is made, a package is made of a line into what was lent, and what was made is loaded into a store under that key,
+  -- for a device that is set to a country and class: each answer is its entry's on these very arguments.
+  pub record MakesAndLoads (table : List Class) (private master salt line country : List ℕ) (class : ℕ)
+      (store old : List ℕ) (r : Loaded) (store′ out : List ℕ) : Type 0 where
     pub public : List ℕ
     pub key-answer : MakesKeyAnew private (r .key) public
     -- so many bytes were made (none after a refusal), and they were loaded
     pub size : ℕ
-    pub make-answer : MakesPackage p table private master salt profile old 0 (r .make) out size
+    pub make-answer : MakesFromLine p table private master salt line old 0 (r .make) out size
     pub load-answer : Loads p table public (take size out) country class store (r .load) store′
-    -- where making answers 0 for a profile of the device's own country and class that is newer than the one stored, if
-    -- any, and its pair is stored or there is room: the key was made, loading answers 0, the lookup gives the profile
-    pub loads : r .make ≡ 0 → length country ≡ 2 → deviceOf country class .country ≡ profile .country
+    -- where making answers 0, the line means a profile; and where this is of the device's own country and class, newer than the
+    -- one stored, if any, and its pair is stored or there is room: the key was made, loading answers 0, and the lookup gives it
+    pub loads : r .make ≡ 0 → (profile : Profile) × (readLine table line ≡ done profile)
+        × (length country ≡ 2 → deviceOf country class .country ≡ profile .country
         → class ≡ profile .class → length store ≡ storeSize
         → newer profile (find (keyOf profile) (stored store)) ≡ true
         → (isStored (keyOf profile) (stored store) || ltb (length (stored store)) capacity) ≡ true
-        → (r .key ≡ 0) × (r .load ≡ 0) × (lookupIn table (deviceOf country class) (stored store′) ≡ done profile)
+        → (r .key ≡ 0) × (r .load ≡ 0) × (lookupIn table (deviceOf country class) (stored store′) ≡ done profile))

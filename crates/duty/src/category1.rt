@@ -1,16 +1,15 @@
 // The theorems of what C calls at category 1. Another category is this file with its own names in the next eight lines.
 use gridprofile::category1::gridprofile_load as load;
 use gridprofile::category1::gridprofile_make_key as make_key;
+use gridprofile::category1::gridprofile_make_package as make_package;
 use gridprofile::category1::gridprofile_sign as sign;
 use gridprofile::category1::gridprofile_verify as verify;
 use gridprofile::category1::gridprofile_verify_round as verify_round;
-use gridprofile::category1::make_package;
 use parameters::CATEGORY1 as P;
 ghost use Rattle.parameters.specs.Categories.{category1 as p};
 use crate::FourRounds;
 use crate::Loaded;
 use crate::Signed;
-use profile::Profile;
 ghost use Rattle.profile.specs.Rules.{classes};
 ghost use Rattle.duty.specs.Carried.{SignsAndVerifies, VerifiesFourRounds, MakesAndLoads};
 
@@ -73,25 +72,25 @@ pub fn verify_four_rounds(
     }
 }
 
-// A package is made of a profile and loaded into a store under the key that make_key wrote.
+// A package is made of a line and loaded into a store under the key that make_key wrote.
 pub fn make_and_load(
     private: &[u8],
     master: &[u8],
     salt: &[u8],
-    profile: Profile,
+    line: &[u8],
     store: &mut [u8],
     country: &[u8],
     class: u32,
     out: &mut [u8],
 ) -> Loaded
     ensures { λ r.
-        ⌜ MakesAndLoads p classes (now (private .entry)) (now (master .entry)) (now (salt .entry)) profile
+        ⌜ MakesAndLoads p classes (now (private .entry)) (now (master .entry)) (now (salt .entry)) (now (line .entry))
         (now (country .entry)) class (now (store .entry)) (now (out .entry)) r (now (store .exit)) (now (out .exit)) ⌝ }
 {
     let mut public = [0u8; KEY];
     let mut length: usize = 0;
     let key_answer = make_key(private, &mut public);
-    let make_answer = make_package(private, master, salt, profile, out, &mut length);
+    let make_answer = make_package(private, master, salt, line, out, &mut length);
     let load_answer = load(store, &public, &out[..length], country, class);
     Loaded {
         key: key_answer,

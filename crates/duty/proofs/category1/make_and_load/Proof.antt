@@ -10,7 +10,7 @@ returns c =
     let loaded = c .before .before in
     let made = loaded .before .before .before .before .before .before in
     let keyed = made .before .before .before .before in
-    makes-and-loads sound-1 (keyed .gridprofile-make-key .ensures) (made .make-package .ensures)
+    makes-and-loads sound-1 (keyed .gridprofile-make-key .ensures) (made .gridprofile-make-package .ensures)
     (loaded .gridprofile-load .ensures)
 
 pub make-and-load-spec : {M : Type 1} → statement M
@@ -21,8 +21,8 @@ make-and-load-spec =
     (λ c κs. search needs)
     (λ c κs. search needs)
     (λ c. search needs)
-    (λ c. made-within (c .before .before .before .before .make-package .ensures))
-    (λ c. made-length (c .before .before .before .before .before .make-package .ensures))
+    (λ c. made-within (c .before .before .before .before .gridprofile-make-package .ensures))
+    (λ c. made-length (c .before .before .before .before .before .gridprofile-make-package .ensures))
     (λ c κs. search needs)
     (λ c. search needs)
     (λ c. search needs)
