@@ -107,8 +107,8 @@ fn xor_part(lanes: &mut [u64; 25], at: usize, part: &[u8])
 fn absorb_part(lanes: &mut [u64; 25], at: usize, rate: usize, part: &[u8]) -> usize
     requires { ⌜ (at < rate) × (rate < 200) ⌝ }
     ensures { λ r.
-        ⌜ (spongeOf (now (lanes .exit)) r rate ≡ absorbBytes (spongeOf (now (lanes .entry)) at rate) (now (part .entry)))
-        × (r < rate) ⌝ }
+        ⌜ (spongeOf (now (lanes .exit)) r rate ≡
+        absorbBytes (spongeOf (now (lanes .entry)) at rate) (now (part .entry))) × (r < rate) ⌝ }
 {
     let n = part.len();
     let mut next = at;
