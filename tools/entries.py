@@ -103,6 +103,11 @@ def place(module, path):
     return f"{other.group(1)}.{other.group(2)}" if other else ""
 
 
+def is_inner(module, path):
+    """A file of promises that only inner functions make: no entry cites one."""
+    return place(module, path).split(".")[-1].startswith("Inner")
+
+
 def is_sizes(module, taken):
     """The one import that may have another name: the sizes of a category as `p`."""
     return taken.local == "p" and place(module, taken.path) == SIZES and re.fullmatch(r"category\d+", taken.name)
@@ -118,7 +123,7 @@ def definition(module, word):
         raise Problem(f"{module.file} imports {taken.name or taken.path} as {word}: another name")
     if any(other.local == taken.path.split(".")[0] for other in module.imports):
         raise Problem(f"{module.file} gives {taken.path.split('.')[0]} another meaning by an import")
-    if not place(module, taken.path):
+    if not place(module, taken.path) or is_inner(module, taken.path):
         raise Problem(f"{module.file} imports {word} from {taken.path}, which is no file of a crate's definitions")
     return f"{place(module, taken.path)}.{taken.name}"
 
@@ -234,10 +239,11 @@ def has_own_sizes(tree, module):
 
 
 def imports(tree, path):
-    """No import of a file with entries has another name than its definition, but the sizes of a category."""
+    """No import of a file with entries has another name than its definition, but the sizes of a category and inner ones."""
     module, _ = tree.module(path[:-1])
     for taken in module.imports:
-        if taken.local != (taken.name or taken.path.split(".")[-1]) and not is_sizes(module, taken):
+        named = taken.local == (taken.name or taken.path.split(".")[-1])
+        if not named and not is_sizes(module, taken) and not is_inner(module, taken.path):
             raise Problem(f"{module.file} imports {taken.name or taken.path} as {taken.local}: another name")
     has_own_sizes(tree, module)
 

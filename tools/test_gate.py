@@ -372,6 +372,12 @@ class Definitions(Repository):
         whole = "classes};\nghost use Rattle.twin.specs as One"
         self.refuses("imports Rattle.twin.specs as One", INNER_FILE, "  One,", "", "  classes,\n}", whole)
 
+    def test_an_inner_definition(self):
+        inner = "ghost use Rattle.inner.specs.InnerStates.{one as oneOf};\nghost use"
+        text = REPOSITORY[INNER_FILE].replace("ghost use", inner, 1)
+        self.assertEqual(self.problems(**{INNER_FILE: text}), [])
+        self.refuses("no file of a crate's definitions", INNER_FILE, "specs.specs.Promises", "specs.specs.InnerStates")
+
     def test_imported_once(self):
         self.refuses("imports One 2 times", INNER_FILE, "  One,", "  One, Mine.One,")
         self.refuses("imports One 2 times", INNER_FILE, "mod beside {", "mod beside {\nghost use Rattle.twin.{One};")
