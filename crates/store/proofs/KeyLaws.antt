@@ -7,7 +7,10 @@ use native.Mathlib.Omega.{arith}
 use lib.Dec.{T, eqb, ltb, ltb→lt}
 use borrow.Author.Tests.{eqb-true, eq-eqb, ne-eqb}
 use Rattle.outcome.specs.Answer.{pick}
-use Rattle.profile.specs.Rules.{Class, contains, letters}
+use Rattle.outcome.specs.Result.{done}
+use Rattle.profile.specs.declared.Profile.{Profile}
+use Rattle.profile.specs.Rules.{Class, contains, letters, classIn, isClass, valid}
+use Rattle.profile.proofs.RuleLaws.{parts}
 use Rattle.store.specs.declared.Key.{Key}
 use Rattle.store.specs.declared.Device.{Device}
 use Rattle.store.specs.Keys.{sameKey, hasClass, deviceOk}
@@ -123,3 +126,30 @@ device-class-byte table bytes d e =
     let first = both-true (contains letters (d .country .first)) _ e in
     let second = both-true (contains letters (d .country .second)) _ (first .1) in
     class-byte table bytes (d .class) (second .1)
+
+-- ---- the device of a valid profile
+
+or-second : (a b : Bool) → b ≡ true → (a || b) ≡ true
+or-second true b e = refl
+or-second false b e = e
+
+-- the class that a table gives for some volts is one of the table
+class-known : (table : List Class) (volts letter : ℕ) → isClass (classIn table volts) letter ≡ true
+    → hasClass table letter ≡ true
+class-known [] volts letter e = e
+class-known (c ∷ cs) volts letter e = go (contains (c .volts) volts) e (class-known cs volts letter)
+  where
+    go : (b : Bool) → isClass (pick b (done (c .letter)) (classIn cs volts)) letter ≡ true
+        → (isClass (classIn cs volts) letter ≡ true → hasClass cs letter ≡ true)
+        → (eqb letter (c .letter) || hasClass cs letter) ≡ true
+    go true e rest = rw e
+    go false e rest = or-second (eqb letter (c .letter)) (hasClass cs letter) (rest e)
+
+pub device-of-valid : (table : List Class) (profile : Profile) (device : Device) → T (valid table profile)
+    → device .country ≡ profile .country → device .class ≡ profile .class → deviceOk table device ≡ true
+device-of-valid table profile device ok country class =
+    let rules = parts table profile ok in
+    let first : contains letters (device .country .first) ≡ true = rw country (rules .first) in
+    let second : contains letters (device .country .second) ≡ true = rw country (rules .second) in
+    device-class table device first second
+    ∙ rw class (class-known table (profile .volts) (profile .class) (rules .agrees))

@@ -5,3 +5,4 @@ pub mod PlaceLaws
 pub mod LookupLaws
 pub mod PutLaws
 pub mod Reached
+pub mod OneSlot

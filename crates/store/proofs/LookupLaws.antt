@@ -29,6 +29,7 @@ use Rattle.store.specs.Stored.{
   firstSlot,
 }
 use Rattle.store.specs.Calls.{lookupChecks, lookupIn, foundIn, foundLine, lookupLineChecks, LooksUp, Stores}
+use Rattle.store.proofs.StoredLaws.{find-none}
 use Rattle.store.proofs.PlaceLaws.{held, held-none}
 
 -- ---- what is found
@@ -70,6 +71,17 @@ module _ (table : List Class) (d : Device) (p : Profile) (ps qs : List Profile) 
   lookup-other s =
       let same : find (deviceKey d) qs ≡ find (deviceKey d) ps = new .finds (deviceKey d) ∙ rw s in
       rw same
+
+-- a sound setting finds what is stored under it
+pub lookup-sound : (table : List Class) (d : Device) (ps : List Profile) → deviceOk table d ≡ true
+    → lookupIn table d ps ≡ find (deviceKey d) ps
+lookup-sound table d ps ok = go (find (deviceKey d) ps) refl
+  where
+    go : (r : Result Profile) → find (deviceKey d) ps ≡ r → lookupIn table d ps ≡ find (deviceKey d) ps
+    go (done p) e = lookup-found table d ps ok p e ∙ sym e
+    go (refused r) e =
+        let none = find-none (deviceKey d) ps (ap isDone e) in
+        lookup-nothing table d ps ok none ∙ sym none
 
 -- nothing is found in the empty store
 pub lookup-empty : (table : List Class) (d : Device) → deviceOk table d ≡ true

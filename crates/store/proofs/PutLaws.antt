@@ -5,30 +5,35 @@ use mathlib.Core.List.{List, [], _∷_}
 use Prim.Native.Nat.{ℕ, suc, _≤_, _<_}
 use native.Mathlib.Omega.{arith}
 use lib.Dec.{ltb}
-use lib.ListN.{length}
-use borrow.Author.Tests.{lt-ltb, le-ltb}
+use lib.ListN.{length, getD}
+use borrow.Author.Tests.{eq-eqb, ne-eqb, lt-ltb, le-ltb}
 use Rattle.outcome.specs.Answer.{store-full, not-stored, _unless_, firstRefusal, pick}
 use Rattle.outcome.specs.Result.{done, refused}
 use Rattle.profile.specs.declared.Profile.{Profile}
 use Rattle.image.specs.Image.{profileOf}
+use Rattle.store.specs.declared.Key.{Key}
 use Rattle.store.specs.declared.Device.{Device}
 use Rattle.store.specs.Keys.{keyOf, deviceKey, sameKey}
 use Rattle.store.specs.Stored.{
   capacity,
+  storeSize,
+  slotOf,
   slotsOf,
   slotBytes,
   SlotWritten,
   stored,
   find,
+  isDone,
   isStored,
   isFree,
   holding,
   firstSlot,
 }
-use Rattle.store.specs.Calls.{newer, putChecks, putNumber, Stores, Taken, Puts}
+use Rattle.store.specs.Calls.{newer, putChecks, putNumber, putImageChecks, Stores, Chosen, Taken, Puts}
 use Rattle.store.proofs.StoredLaws.{length-insert, perm-length}
-use Rattle.store.proofs.SlotLaws.{stores-replaced, stores-added, room, no-room}
-use Rattle.store.proofs.PlaceLaws.{slots-length, held, held-nowhere, held-none}
+use Rattle.store.proofs.KeyLaws.{not-both}
+use Rattle.store.proofs.SlotLaws.{unset, first-passes, stores-replaced, stores-added, room, no-room}
+use Rattle.store.proofs.PlaceLaws.{slots-length, slot-at, held, held-nowhere, held-none}
 
 -- ---- the number
 
@@ -102,42 +107,80 @@ pub put-same : (d : Device) (p : Profile) (ps qs : List Profile) → find (keyOf
 unfolding putNumber
 put-same d p ps qs e l = rw (e, l)
 
--- ---- what `put` answers after its search
+-- over an image of the right size the number is that of its profiles
+pub put-sized : (d : Device) (p : Profile) (old : List ℕ) → length old ≡ storeSize
+    → firstRefusal (putImageChecks d p old) ≡ putNumber d p (stored old)
+unfolding putNumber
+put-sized d p old size = rw (eq-eqb (length old) storeSize size)
+
+-- ---- the slot that is chosen
+
+module _ (k : Key) (image : List ℕ) (i : ℕ) (first : i ≡ firstSlot (holding k) (slotsOf capacity image)) where
+  chosen-held : i < capacity → Chosen k image i
+  chosen-held h =
+      let there : isStored k (stored image) ≡ true = ap isDone (held k image i first h) in
+      record { within = h; held = λ _. first; free = λ none. absurd (not-both (isStored k (stored image)) there none) }
+
+  chosen-free : capacity ≤ i → (j : ℕ) → j ≡ firstSlot isFree (slotsOf capacity image) → j < capacity → Chosen k image j
+  chosen-free none j free h =
+      let slots = slotsOf capacity image in
+      let size = slots-length capacity image in
+      let passes : isFree (getD slots j unset) ≡ true = rw free (first-passes isFree slots unset (omega arith)) in
+      record {
+        within = h;
+        held = λ some. absurd (not-both (isStored k (stored image)) some (held-nowhere k image i first none));
+        free = λ _. sym (ap isFree (slot-at capacity j image h)) ∙ passes;
+      }
+
+-- ---- what `put` answers
+
+-- an image of another size is refused before all else
+pub answers-size : {d : Device} {p : Profile} {old : List ℕ} → (length old ≡ storeSize → ⊥) → Puts d p old 1 old
+answers-size {old = old} other =
+    record {
+      answer = sym (rw (ne-eqb (length old) storeSize other));
+      taken = λ z. absurd (omega arith);
+      kept = λ z. refl;
+    }
 
 -- an answer that refuses and leaves the store, and one that stores
-module _ {d : Device} {p : Profile} {old : List ℕ} where
+module _ {d : Device} {p : Profile} {old : List ℕ} (size : length old ≡ storeSize) where
   pub refuses : (n : ℕ) → putNumber d p (stored old) ≡ suc n → Puts d p old (suc n) old
-  refuses n e = record { answer = sym e; taken = λ z. absurd (omega arith); kept = λ z. refl }
+  refuses n e =
+      record { answer = sym (put-sized d p old size ∙ e); taken = λ z. absurd (omega arith); kept = λ z. refl }
 
   pub takes : {new : List ℕ} → putNumber d p (stored old) ≡ 0 → Taken p old new → Puts d p old 0 new
-  takes e new = record { answer = sym e; taken = λ z. new; kept = λ z. absurd (z refl) }
+  takes e new =
+      record { answer = sym (put-sized d p old size ∙ e); taken = λ z. new; kept = λ z. absurd (z refl) }
 
-module _ {d : Device} {p : Profile} {old : List ℕ} {i : ℕ} (its : sameKey (keyOf p) (deviceKey d) ≡ true)
+-- after its search
+module _ {d : Device} {p : Profile} {old : List ℕ} {i : ℕ} (size : length old ≡ storeSize)
+    (its : sameKey (keyOf p) (deviceKey d) ≡ true)
     (first : i ≡ firstSlot (holding (keyOf p)) (slotsOf capacity old)) where
   pub answers-old : i < capacity → p .serial ≤ profileOf (slotBytes i old) .serial → Puts d p old 7 old
-  answers-old h serial = refuses 6 (put-old d p (stored old) its _ (held (keyOf p) old i first h) serial)
+  answers-old h serial = refuses size 6 (put-old d p (stored old) its _ (held (keyOf p) old i first h) serial)
 
   pub answers-replaced : {new : List ℕ} → i < capacity → profileOf (slotBytes i old) .serial < p .serial
       → SlotWritten i p old new → Puts d p old 0 new
   answers-replaced {new} h serial w =
-      let size = slots-length capacity old in
+      let count = slots-length capacity old in
       let stores = stores-replaced p (slotsOf capacity old) (slotsOf capacity new) i first (omega arith) (w .slots) in
-      takes (put-newer d p (stored old) its _ (held (keyOf p) old i first h) serial)
-      (record { slot = i; within = h; bytes = w .bytes; stores = stores })
+      takes size (put-newer d p (stored old) its _ (held (keyOf p) old i first h) serial)
+      (record { slot = i; chosen = chosen-held (keyOf p) old i first h; written = w; stores = stores })
 
   module _ (none : capacity ≤ i) (j : ℕ) (free : j ≡ firstSlot isFree (slotsOf capacity old)) where
     pub answers-full : capacity ≤ j → Puts d p old 8 old
     answers-full h =
-        let size = slots-length capacity old in
+        let count = slots-length capacity old in
         let all = no-room (slotsOf capacity old) (omega arith) in
-        refuses 7 (put-full d p (stored old) its (held-none (keyOf p) old i first none) (omega arith))
+        refuses size 7 (put-full d p (stored old) its (held-none (keyOf p) old i first none) (omega arith))
 
     pub answers-added : {new : List ℕ} → j < capacity → SlotWritten j p old new → Puts d p old 0 new
     answers-added {new} h w =
-        let size = slots-length capacity old in
+        let count = slots-length capacity old in
         let less = room (slotsOf capacity old) (omega arith) in
         let new-key = held-nowhere (keyOf p) old i first none in
         let stores =
         stores-added p (slotsOf capacity old) (slotsOf capacity new) j free (omega arith) new-key (w .slots) in
-        takes (put-room d p (stored old) its (held-none (keyOf p) old i first none) (omega arith))
-        (record { slot = j; within = h; bytes = w .bytes; stores = stores })
+        takes size (put-room d p (stored old) its (held-none (keyOf p) old i first none) (omega arith))
+        (record { slot = j; chosen = chosen-free (keyOf p) old i first none j free h; written = w; stores = stores })

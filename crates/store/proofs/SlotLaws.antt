@@ -74,7 +74,7 @@ module _ (test : Slot → Bool) (ss : List Slot) (i : ℕ)
       omega arith
 
 -- the slot that is found passes the test
-first-passes : (test : Slot → Bool) (ss : List Slot) (d : Slot) → firstSlot test ss < length ss
+pub first-passes : (test : Slot → Bool) (ss : List Slot) (d : Slot) → firstSlot test ss < length ss
     → test (getD ss (firstSlot test ss) d) ≡ true
 unfolding firstSlot
 first-passes test [] d h = absurd (omega arith)

@@ -28,7 +28,22 @@ use Rattle.profile.specs.Line.{longest, lineOf}
 use Rattle.store.specs.declared.Key.{Key}
 use Rattle.store.specs.declared.Device.{Device}
 use Rattle.store.specs.Keys.{keyOf, deviceKey, sameKey, deviceOf, deviceOk}
-use Rattle.store.specs.Stored.{capacity, storeSize, withProfile, stored, find, isDone, isStored, insert}
+use Rattle.store.specs.Stored.{
+  capacity,
+  storeSize,
+  slotOf,
+  slotsOf,
+  slotBytes,
+  SlotWritten,
+  isFree,
+  holding,
+  firstSlot,
+  stored,
+  find,
+  isDone,
+  isStored,
+  insert,
+}
 
 -- ---- looking up
 
@@ -57,7 +72,7 @@ abbrev pub foundLine : Result Profile → List ℕ
 foundLine (done p) = lineOf p
 foundLine (refused r) = []
 
--- only an image that no run of the library made holds a profile that breaks a rule
+-- only an image that no run of the library made holds a profile that breaks a rule (crate package, `NoneBroken`)
 abbrev pub lookupLineChecks : List Class → List ℕ → List ℕ → ℕ → List ℕ → List Check
 lookupLineChecks table image country class old =
     bad-device unless eqb (length country) 2
@@ -91,6 +106,10 @@ putChecks d p ps =
 unfoldable pub putNumber : Device → Profile → List Profile → ℕ
 putNumber d p ps = firstRefusal (putChecks d p ps)
 
+-- the image's size, and then these
+abbrev pub putImageChecks : Device → Profile → List ℕ → List Check
+putImageChecks d p old = bad-size unless eqb (length old) storeSize ∷ putChecks d p (stored old)
+
 -- two lists hold the same, each as often, in any order
 abbrev pub Perm : List Profile → List Profile → Type 0
 Perm = List·Permᴰ
@@ -102,15 +121,23 @@ pub record Stores (p : Profile) (ps qs : List Profile) : Type 0 where
   pub finds : (k : Key) → find k qs ≡ pick (sameKey (keyOf p) k) (done p) (find k ps)
   pub listed : Perm qs (insert p ps)
 
--- p stands in one slot, whichever the program chose, and every other byte is as it was
+-- The slot that a profile of this key takes. Where the key is stored it is the slot that a lookup finds, the first of the key;
+-- else it is one that is free, and which of these is the program's choice.
+pub record Chosen (k : Key) (image : List ℕ) (i : ℕ) : Type 0 where
+  pub within : i < capacity
+  pub held : isStored k (stored image) ≡ true → i ≡ firstSlot (holding k) (slotsOf capacity image)
+  pub free : isStored k (stored image) ≡ false → isFree (slotOf (slotBytes i image)) ≡ true
+
+-- One slot changed: it holds p now. Every other byte of the image is as it was, and every other slot of the store, used or
+-- not (`SlotWritten`).
 pub record Taken (p : Profile) (old new : List ℕ) : Type 0 where
   pub slot : ℕ
-  pub within : slot < capacity
-  pub bytes : new ≡ withProfile slot p old
+  pub chosen : Chosen (keyOf p) old slot
+  pub written : SlotWritten slot p old new
   pub stores : Stores p (stored old) (stored new)
 
 -- the answer of `put`; after a refusal every byte is as it was
 pub record Puts (d : Device) (p : Profile) (old : List ℕ) (r : ℕ) (new : List ℕ) : Type 0 where
-  pub answer : r ≡ putNumber d p (stored old)
+  pub answer : r ≡ firstRefusal (putImageChecks d p old)
   pub taken : r ≡ 0 → Taken p old new
   pub kept : (r ≡ 0 → ⊥) → new ≡ old

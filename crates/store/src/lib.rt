@@ -175,11 +175,13 @@ pub fn lookup(store: &[u8], country: &[u8], class: u32, out: &mut [u8], length: 
 }
 
 // Stores a profile of the device's own country and class, in place of an older one of these or in a free slot.
-// Callers ask `device_ok` first.
+// Callers ask for the profile's rules and `device_ok` first.
 pub fn put(store: &mut [u8], profile: Profile, device: Device) -> u8
-    requires { ⌜ length (now store) ≡ storeSize ⌝ }
     ensures { λ r. ⌜ Puts device profile (now (store .entry)) r (now (store .exit)) ⌝ }
 {
+    if store.len() != STORE_SIZE {
+        return BAD_SIZE;
+    }
     if !is_for(profile, device) {
         return OTHER_DEVICE;
     }

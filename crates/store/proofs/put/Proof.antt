@@ -8,13 +8,28 @@ use Rattle.profile.specs.declared.Profile.{Profile}
 use Rattle.store.specs.declared.Key.{Key}
 use Rattle.store.specs.Keys.{keyOf, deviceKey, sameKey}
 use Rattle.store.specs.Stored.{capacity, slotsOf, stored, holding, firstSlot}
-use Rattle.store.proofs.PutLaws.{put-other, refuses, answers-old, answers-replaced, answers-full, answers-added}
+use Rattle.store.proofs.PutLaws.{
+  put-other,
+  answers-size,
+  refuses,
+  answers-old,
+  answers-replaced,
+  answers-full,
+  answers-added,
+}
 use Rattle.store.proofs.put.Statement.{statement}
 use Rattle.store.proofs.put.Tie as tie
 
+-- the image has its size
+abbrev at-size : tie.After-find-key → tie.Else1
+at-size found = found .before .before .before .before .before
+
 -- where the function begins
+abbrev start : tie.Else1 → tie.Start
+start sized = sized .before .before
+
 abbrev entry : tie.After-find-key → tie.Start
-entry found = found .before .before .before .before .before .before
+entry found = start (at-size found)
 
 -- the profile is the device's
 its : (found : tie.After-find-key)
@@ -22,7 +37,7 @@ its : (found : tie.After-find-key)
     sameKey (keyOf (a .profile)) (deviceKey (a .device)) ≡ true
 its found =
     let other = found .before .before .before in
-    sym (other .before .is-for .ensures) ∙ not-false _ (other .if1 .left)
+    sym (other .before .is-for .ensures) ∙ not-false _ (other .if2 .left)
 
 -- the slot that was found is the first that holds the profile's key
 first : (found : tie.After-find-key)
@@ -32,14 +47,18 @@ first found =
     let slots = slotsOf capacity (entry found .args .store .now) in
     found .find-key .ensures ∙ ap (λ (k : Key). firstSlot (holding k) slots) (found .before .key-of .ensures)
 
+returns : tie.Need-returns
+returns c = answers-size (c .if1 .taken)
+
 is-for-requires : tie.Need-is-for-requires
 is-for-requires c κs = search needs
 
-returns : tie.Need-returns
-returns c =
-    let a = c .before .before .before .args in
-    let other = sym (c .before .is-for .ensures) ∙ not-true _ (c .if1 .taken) in
-    refuses 5 (put-other (a .device) (a .profile) (stored (a .store .now)) other)
+returns-2 : tie.Need-returns-2
+returns-2 c =
+    let sized = c .before .before in
+    let a = start sized .args in
+    let other = sym (c .before .is-for .ensures) ∙ not-true _ (c .if2 .taken) in
+    refuses (sized .if1 .left) 5 (put-other (a .device) (a .profile) (stored (a .store .now)) other)
 
 key-of-requires : tie.Need-key-of-requires
 key-of-requires c κs = search needs
@@ -53,15 +72,15 @@ profile-at-requires c κs = search needs
 same-length : tie.Need-same-length
 same-length c = search needs
 
-returns-2 : tie.Need-returns-2
-returns-2 c =
+returns-3 : tie.Need-returns-3
+returns-3 c =
     let read = c .before .before .before in
     let there = read .before .before in
     let found = there .before in
-    let held = there .if2 .taken in
+    let held = there .if3 .taken in
     let serial = ap (λ (q : Profile). q .serial) (read .profile-at .ensures) in
-    let older = c .if3 .taken in
-    answers-old (its found) (first found) (omega arith) (omega arith)
+    let older = c .if4 .taken in
+    answers-old (at-size found .if1 .left) (its found) (first found) (omega arith) (omega arith)
 
 write-slot-requires : tie.Need-write-slot-requires
 write-slot-requires c κs = search needs
@@ -69,17 +88,17 @@ write-slot-requires c κs = search needs
 same-length-2 : tie.Need-same-length-2
 same-length-2 c = search needs
 
-returns-3 : tie.Need-returns-3
-returns-3 c =
+returns-4 : tie.Need-returns-4
+returns-4 c =
     let wrote = c .before .before in
     let compared = wrote .before .before in
     let read = compared .before .before .before in
     let there = read .before .before in
     let found = there .before in
-    let held = there .if2 .taken in
+    let held = there .if3 .taken in
     let serial = ap (λ (q : Profile). q .serial) (read .profile-at .ensures) in
-    let newer = compared .if3 .left in
-    answers-replaced (its found) (first found) (omega arith) (omega arith) (wrote .write-slot .ensures)
+    let newer = compared .if4 .left in
+    answers-replaced (at-size found .if1 .left) (its found) (first found) (omega arith) (omega arith) (wrote .write-slot .ensures)
 
 find-free-requires : tie.Need-find-free-requires
 find-free-requires c κs = search needs
@@ -87,14 +106,14 @@ find-free-requires c κs = search needs
 same-length-3 : tie.Need-same-length-3
 same-length-3 c = search needs
 
-returns-4 : tie.Need-returns-4
-returns-4 c =
+returns-5 : tie.Need-returns-5
+returns-5 c =
     let searched = c .before in
     let nowhere = searched .before .before in
     let found = nowhere .before in
-    let none = nowhere .if2 .left in
-    let store-full = c .if4 .taken in
-    answers-full (its found) (first found) (omega arith) _ (searched .find-free .ensures) (omega arith)
+    let none = nowhere .if3 .left in
+    let store-full = c .if5 .taken in
+    answers-full (at-size found .if1 .left) (its found) (first found) (omega arith) _ (searched .find-free .ensures) (omega arith)
 
 write-slot-requires-2 : tie.Need-write-slot-requires-2
 write-slot-requires-2 c κs = search needs
@@ -102,35 +121,36 @@ write-slot-requires-2 c κs = search needs
 same-length-4 : tie.Need-same-length-4
 same-length-4 c = search needs
 
-returns-5 : tie.Need-returns-5
-returns-5 c =
+returns-6 : tie.Need-returns-6
+returns-6 c =
     let wrote = c .before .before in
     let there = wrote .before .before in
     let searched = there .before in
     let nowhere = searched .before .before in
     let found = nowhere .before in
-    let none = nowhere .if2 .left in
-    let room = there .if4 .left in
-    answers-added (its found) (first found) (omega arith) _ (searched .find-free .ensures) (omega arith)
+    let none = nowhere .if3 .left in
+    let room = there .if5 .left in
+    answers-added (at-size found .if1 .left) (its found) (first found) (omega arith) _ (searched .find-free .ensures) (omega arith)
     (wrote .write-slot2 .ensures)
 
 pub put-spec : {M : Type 1} → statement M
 put-spec =
     tie.close
     (tie.spec
-    is-for-requires
     returns
+    is-for-requires
+    returns-2
     key-of-requires
     find-key-requires
     profile-at-requires
     same-length
-    returns-2
+    returns-3
     write-slot-requires
     same-length-2
-    returns-3
+    returns-4
     find-free-requires
     same-length-3
-    returns-4
+    returns-5
     write-slot-requires-2
     same-length-4
-    returns-5)
+    returns-6)
