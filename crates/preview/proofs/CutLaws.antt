@@ -1,5 +1,5 @@
 -- Laws of the input cut into lines, and of what its lines store. Assumes nothing.
-use mathlib.Core.Path.{_≡_, refl, _∙_, sym, ap, subst}
+use mathlib.Core.Path.{_≡_, refl, _∙_, sym, ap}
 use mathlib.Core.List.{List, [], _∷_, _++_}
 use Prim.Native.Nat.{ℕ, suc, _+_, _-_, _≤_, _<_}
 use native.Mathlib.Numerals.{add-one}
@@ -12,7 +12,8 @@ use Rattle.outcome.specs.Answer.{pick}
 use Rattle.profile.specs.declared.Profile.{Profile}
 use Rattle.profile.specs.Rules.{Class}
 use Rattle.profile.specs.Line.{lineFeed, readLine}
-use Rattle.store.specs.Reached.{Call, Run}
+use Rattle.store.specs.Reached.{Run}
+use Rattle.store.proofs.Reached.{run-then}
 use Rattle.preview.specs.Preview.{cutAfter, cut, LineAt, callsOf, callsIn}
 
 -- ---- the next line
@@ -73,15 +74,12 @@ module _ (input : List ℕ) (at i : ℕ) (passed : Passed input at i) where
 
 -- ---- what the lines store
 
-run-then : (cs ds : List Call) (ps qs rs : List Profile) → Run ps cs qs → Run qs ds rs → Run ps (cs ++ ds) rs
-run-then [] ds ps qs rs a b = subst (λ (l : List Profile). Run l ds rs) a b
-run-then (c ∷ cs) ds ps qs rs a b = (a .0, a .1, run-then cs ds (a .0) qs rs (a .2) b)
-
 -- before the first line qs were stored, and the lines before a place left ps: what the lines from there on make of ps,
 -- all lines make of qs
 abbrev pub Left : List Class → List ℕ → List Profile → ℕ → List Profile → Type 0
 Left table input qs at ps =
-    (rs : List Profile) → Run ps (callsIn table (cut (drop at input))) rs → Run qs (callsIn table (cut input)) rs
+    (rs : List Profile) → Run table ps (callsIn table (cut (drop at input))) rs
+    → Run table qs (callsIn table (cut input)) rs
 
 pub left-all : (table : List Class) (input : List ℕ) (qs : List Profile) → Left table input qs 0 qs
 left-all table input qs rs run = run
@@ -89,15 +87,15 @@ left-all table input qs rs run = run
 module _ (table : List Class) (input : List ℕ) (at end : ℕ) (found : LineAt input at end) (first ps : List Profile)
     (left : Left table input first at ps) where
   pub left-fewer : at < end → (qs : List Profile)
-      → Run ps (callsOf (readLine table (take (end - at) (drop at input)))) qs
+      → Run table ps (callsOf (readLine table (take (end - at) (drop at input)))) qs
       → Left table input first end qs
   unfolding callsIn
   left-fewer h qs run rs others =
       left rs
       (rw (found .line h)
-      (run-then (callsOf (readLine table (take (end - at) (drop at input)))) (callsIn table (cut (drop end input))) ps
-      qs rs run others))
+      (run-then table (callsOf (readLine table (take (end - at) (drop at input)))) (callsIn table (cut (drop end input)))
+      ps qs rs run others))
 
-  pub left-none : end ≤ at → Run first (callsIn table (cut input)) ps
+  pub left-none : end ≤ at → Run table first (callsIn table (cut input)) ps
   unfolding callsIn
   left-none h = left ps (rw (found .unfinished h) refl)

@@ -4,17 +4,20 @@ use mathlib.Core.Bool.{Bool, true, false}
 use mathlib.Core.List.{List, [], _∷_, _++_}
 use Prim.Native.Nat.{ℕ, _≤_, _<_}
 use native.Mathlib.Omega.{arith}
-use lib.Dec.{eqb, ltb}
+use lib.Dec.{T, eqb, ltb}
 use lib.ListN.{length, drop, length-append}
 use borrow.Author.Tests.{eq-eqb, ne-eqb, ltb-true, ltb-false}
 use Rattle.outcome.specs.Answer.{pick, bad-size}
 use Rattle.decimal.specs.Decimal.{Room, Appended}
 use Rattle.decimal.proofs.Stores.{front-length, front}
 use Rattle.profile.specs.declared.Profile.{Profile}
-use Rattle.profile.specs.Rules.{Class}
-use Rattle.outcome.specs.Result.{done, refused}
+use Rattle.profile.specs.Rules.{Class, valid}
+use Rattle.profile.specs.Line.{readLine}
+use Rattle.profile.proofs.Theorems.{writes-read}
+use Rattle.outcome.specs.Result.{Result, done, refused}
 use Rattle.store.specs.Stored.{insert}
-use Rattle.store.specs.Reached.{Call, answerTo, Step, Run, Reached, model}
+use Rattle.store.specs.Reached.{Call, answerTo, Step, ValidCall, Run, Reached, model}
+use Rattle.store.proofs.KeyLaws.{device-of-valid}
 use Rattle.store.proofs.StoredLaws.{find-insert, perm-eq}
 use Rattle.store.proofs.Reached.{reached-hold}
 use Rattle.preview.specs.declared.Previewed.{Previewed}
@@ -22,6 +25,8 @@ use Rattle.preview.specs.declared.Previewed.the-variants.{Length, BadSiz
 use Rattle.preview.specs.Preview.{
   longestInput,
   cut,
+  ownDevice,
+  callsOf,
   callsIn,
   shown,
   ShownOnce,
@@ -36,11 +41,39 @@ use Rattle.preview.specs.Preview.{
 
 -- ---- what is shown
 
+-- a valid profile on a device of its own country and class is a valid call
+pub own-valid : (table : List Class) (p : Profile) → T (valid table p)
+    → ValidCall table (record { device = ownDevice p; profile = p })
+own-valid table p ok = record { profile = ok; device = device-of-valid table p (ownDevice p) ok refl refl }
+
+-- and such are all calls of lines
+abbrev AllCalls : List Class → List Call → Type 0
+AllCalls table [] = Unit {0}
+AllCalls table (c ∷ cs) = ValidCall table c × AllCalls table cs
+
+calls-then : (table : List Class) (cs ds : List Call) → AllCalls table cs → AllCalls table ds → AllCalls table (cs ++ ds)
+calls-then table [] ds all others = others
+calls-then table (c ∷ cs) ds all others = (all .0, calls-then table cs ds (all .1) others)
+
+line-valid : (table : List Class) (line : List ℕ) → AllCalls table (callsOf (readLine table line))
+line-valid table line = go (readLine table line) refl
+  where
+    go : (r : Result Profile) → readLine table line ≡ r → AllCalls table (callsOf r)
+    go (done p) e = (own-valid table p (writes-read table line p e .1), tt)
+    go (refused r) e = tt
+
+lines-valid : (table : List Class) (lines : List (List ℕ)) → AllCalls table (callsIn table lines)
+unfolding callsIn
+lines-valid table [] = tt
+lines-valid table (line ∷ lines) =
+    calls-then table (callsOf (readLine table line)) (callsIn table lines) (line-valid table line)
+    (lines-valid table lines)
+
 -- it is reached by the calls of the lines
-model-run : (cs : List Call) (ps : List Profile) → Run ps cs (model ps cs)
+model-run : (table : List Class) (cs : List Call) (ps : List Profile) → AllCalls table cs → Run table ps cs (model ps cs)
 unfolding model
-model-run [] ps = refl
-model-run (c ∷ cs) ps =
+model-run table [] ps all = refl
+model-run table (c ∷ cs) ps all =
     let next : List Profile = pick (eqb (answerTo c ps) 0) (insert (c .profile) ps) ps in
     let step : Step c ps next =
     record {
@@ -48,12 +81,14 @@ model-run (c ∷ cs) ps =
           (record { finds = λ k. find-insert k (c .profile) ps; listed = perm-eq refl });
       kept = λ ne. rw (ne-eqb (answerTo c ps) 0 ne);
     } in
-    (next, step, model-run cs next)
+    (next, all .0, step, model-run table cs next (all .1))
+
+shown-reached : (table : List Class) (input : List ℕ) → Reached table (callsIn table (cut input)) (shown table input)
+shown-reached table input = model-run table (callsIn table (cut input)) [] (lines-valid table (cut input))
 
 pub shown-once : (table : List Class) → ShownOnce table
 shown-once table input =
-    let calls = callsIn table (cut input) in
-    let holds = reached-hold calls (shown table input) (model-run calls []) in
+    let holds = reached-hold table (callsIn table (cut input)) (shown table input) (shown-reached table input) in
     (holds .distinct, holds .fits)
 
 -- ---- the text
@@ -62,10 +97,10 @@ module _ (table : List Class) (input : List ℕ) where
   pub shows-too-long : longestInput < length input → Shows table input tooLong
   shows-too-long long = record { listed = λ h. absurd (omega arith); too-long = λ h. refl }
 
-  pub shows-listed : length input ≤ longestInput → (ps : List Profile) → Reached (callsIn table (cut input)) ps
+  pub shows-listed : length input ≤ longestInput → (ps : List Profile) → Reached table (callsIn table (cut input)) ps
       → Shows table input (header ++ rows ps)
   shows-listed size ps run =
-      let holds = reached-hold (callsIn table (cut input)) ps run in
+      let holds = reached-hold table (callsIn table (cut input)) ps run in
       record {
         listed = λ h. record { order = ps; each-once = holds .listed; all = refl };
         too-long = λ h. absurd (omega arith);
@@ -80,7 +115,7 @@ module _ (table : List Class) (input : List ℕ) where
       go false e = (
         header ++ rows (shown table input),
         shows-listed (ltb-false longestInput (length input) e) (shown table input)
-            (model-run (callsIn table (cut input)) []),
+            (shown-reached table input),
       )
 
 -- ---- the answer

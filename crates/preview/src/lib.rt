@@ -13,10 +13,11 @@ use store::is_used;
 use store::put;
 ghost use mathlib.Core.Path.{_≡_};
 ghost use Prim.Native.Nat.{_+_, _*_, _≤_};
+ghost use lib.Dec.{T};
 ghost use lib.ListN.{length};
 ghost use Rattle.decimal.specs.Decimal.{Room, Appended};
 ghost use Rattle.outcome.specs.Result.{done};
-ghost use Rattle.profile.specs.Rules.{classes};
+ghost use Rattle.profile.specs.Rules.{classes, valid};
 ghost use Rattle.profile.specs.Line.{readLine};
 ghost use Rattle.image.specs.Image.{profileSize};
 ghost use Rattle.store.specs.Stored.{capacity, storeSize, stored};
@@ -51,10 +52,12 @@ fn line_end(input: &[u8], start: usize) -> usize
     start
 }
 
-// Stores a profile as a device of its own country and class does.
+// Stores a valid profile as a device of its own country and class does.
 fn hold(store: &mut [u8], profile: Profile)
     requires { ⌜ length (now store) ≡ storeSize ⌝ }
-    ensures { λ r. ⌜ Run (stored (now (store .entry))) (callsOf (done profile)) (stored (now (store .exit))) ⌝ }
+    requires { ⌜ T (valid classes profile) ⌝ }
+    ensures { λ r.
+        ⌜ Run classes (stored (now (store .entry))) (callsOf (done profile)) (stored (now (store .exit))) ⌝ }
 {
     let country = profile.country;
     let class = profile.class;
@@ -69,7 +72,7 @@ fn hold(store: &mut [u8], profile: Profile)
 fn hold_line(store: &mut [u8], line: &[u8])
     requires { ⌜ length (now store) ≡ storeSize ⌝ }
     ensures { λ r.
-        ⌜ Run (stored (now (store .entry))) (callsOf (readLine classes (now (line .entry))))
+        ⌜ Run classes (stored (now (store .entry))) (callsOf (readLine classes (now (line .entry))))
         (stored (now (store .exit))) ⌝ }
 {
     match read_line(line) {
@@ -83,7 +86,7 @@ fn hold_line(store: &mut [u8], line: &[u8])
 fn hold_lines(store: &mut [u8], input: &[u8])
     requires { ⌜ length (now store) ≡ storeSize ⌝ }
     ensures { λ r.
-        ⌜ Run (stored (now (store .entry))) (callsIn classes (cut (now (input .entry))))
+        ⌜ Run classes (stored (now (store .entry))) (callsIn classes (cut (now (input .entry))))
         (stored (now (store .exit))) ⌝ }
 {
     let mut at = 0;

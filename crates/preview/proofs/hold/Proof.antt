@@ -1,6 +1,8 @@
 -- `preview::hold` meets its contract: it is one call of `store::put`. Assumes nothing.
 use mathlib.Core.Path.{refl}
+use Rattle.profile.specs.Rules.{classes}
 use Rattle.store.proofs.Reached.{puts-step}
+use Rattle.preview.proofs.EntryLaws.{own-valid}
 use borrow.Author.Needs.{needs}
 use Rattle.preview.proofs.hold.Statement.{statement}
 use Rattle.preview.proofs.hold.Tie as tie
@@ -15,7 +17,11 @@ same-length : tie.Need-same-length
 same-length c = search needs
 
 returns : tie.Need-returns
-returns c = (_, puts-step _ _ _ _ _ (c .before .before .put .ensures), refl)
+returns c =
+    let asked = c .before .before in
+    let start = asked .before .before .before .before in
+    let valid = own-valid classes (start .args .profile) (start .pre .1) in
+    (_, valid, puts-step _ _ _ _ _ (start .pre .0) (asked .put .ensures), refl)
 
 pub hold-spec : {M : Type 1} → statement M
 hold-spec = tie.close (tie.spec cast-t6 put-requires same-length returns)

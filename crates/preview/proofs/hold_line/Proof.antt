@@ -3,6 +3,7 @@ use mathlib.Core.Path.{_≡_, refl, _∙_, sym, ap}
 use Rattle.profile.specs.declared.ReadLine.the-variants.{Read, BadSize, BadLine}
 use Rattle.profile.specs.Rules.{classes}
 use Rattle.profile.specs.Line.{readLine, readAnswer}
+use Rattle.profile.proofs.Theorems.{writes-read}
 use borrow.Author.Needs.{needs}
 use Rattle.preview.proofs.hold_line.Statement.{statement}
 use Rattle.preview.proofs.hold_line.Tie as tie
@@ -14,7 +15,14 @@ enum-known-p : tie.Need-enum-known-p
 enum-known-p c = search needs
 
 hold-requires : tie.Need-hold-requires
-hold-requires c κs = search needs
+hold-requires c κs =
+    let found = c .before .before in
+    let read = found .before .before in
+    let start = read .before .before .before in
+    let line = start .args .line .now in
+    let done-with : readLine classes line ≡ readAnswer (Read _) =
+    sym (read .read-line .ensures) ∙ ap readAnswer (found .p .given .1) in
+    (start .pre, writes-read classes line _ done-with .1)
 
 enum-told : tie.Need-enum-told
 enum-told c = search needs

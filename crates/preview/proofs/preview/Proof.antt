@@ -69,7 +69,7 @@ returns-3 c =
     let args = sized .before .before .before .args in
     let input = args .input .now in
     let held-in = stored (held .hold-lines .last .0) in
-    let reached = subst (λ (l : List Profile). Run l (callsIn classes (cut input)) held-in) zeros-empty
+    let reached = subst (λ (l : List Profile). Run classes l (callsIn classes (cut input)) held-in) zeros-empty
     (held .hold-lines .ensures) in
     let shows = shows-listed classes input (short-draw .if2 .left) held-in reached in
     previews-done classes input (args .out .now) (sized .if1 .left) shows
