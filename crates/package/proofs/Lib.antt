@@ -4,3 +4,6 @@ pub mod OpenLaws
 pub mod LoadLaws
 pub mod TheoremLaws
 pub mod Theorems
+pub mod FromLine
+pub mod Runs
+pub mod Images

@@ -10,17 +10,19 @@ use borrow.Author.Tests.{eq-eqb, ne-eqb}
 use Rattle.outcome.specs.Answer.{Check, firstRefusal}
 use Rattle.parameters.specs.declared.Params.{Params}
 use Rattle.profile.specs.declared.Profile.{Profile}
+use Rattle.outcome.specs.Result.{done}
+use Rattle.outcome.proofs.Checks.{both-passed, passed-front}
 use Rattle.profile.specs.Rules.{Class}
 use Rattle.outcome.proofs.Answering.{stops, goes-on}
 use Rattle.store.specs.declared.Device.{Device}
 use Rattle.store.specs.Keys.{deviceOf, deviceOk}
 use Rattle.store.specs.Stored.{storeSize, stored}
-use Rattle.store.specs.Calls.{Puts}
-use Rattle.store.proofs.PutLaws.{put-number}
+use Rattle.store.specs.Calls.{putNumber, Puts}
+use Rattle.store.proofs.PutLaws.{put-number, put-sized}
 use Rattle.package.specs.declared.load.Opened.the-variants as opening
 use Rattle.package.specs.Package.{storeChecks, openChecks, opened, loadChecks}
 use Rattle.package.specs.Entries.{Opens, Loads}
-use Rattle.package.proofs.OpenLaws.{opened-passed, refusal-opened, profile-opened}
+use Rattle.package.proofs.OpenLaws.{opened-number, opened-passed, refusal-opened, profile-opened}
 
 module _ (p : Params) (table : List Class) (key sealed country : List ℕ) (class : ℕ) (old : List ℕ) where
   abbrev All : List Check
@@ -63,6 +65,17 @@ module _ (p : Params) (table : List Class) (key sealed country : List ℕ) (clas
         unfolding loadChecks
         behind = rw (eq-eqb (length country) 2 two, set, eq-eqb (length old) storeSize size)
 
+        -- of a package that opens, storing decides
+        pub load-number : (profile : Profile) → opened p table key sealed ≡ done profile
+            → firstRefusal All ≡ putNumber device profile (stored old)
+        load-number profile found =
+            let zero : firstRefusal Opening ≡ 0 = sym (opened-number p table key sealed) ∙ rw found refl in
+            behind ∙ (passed-front Opening Storing zero ∙ rw found (sym (put-number device profile (stored old))))
+
+        -- where the answer is 0 the package opens
+        pub load-opens : firstRefusal All ≡ 0 → firstRefusal Opening ≡ 0
+        load-opens e = both-passed Opening Storing (sym behind ∙ e) .0
+
         pub load-refused : {k : ℕ} → Opens p table key sealed (opening.Refused k) → Answered k old
         load-refused {k} opens =
             let refusal = refusal-opened p table key sealed opens in
@@ -76,7 +89,7 @@ module _ (p : Params) (table : List Class) (key sealed country : List ℕ) (clas
             subst (λ (d : Device). Puts d profile old r new) same done-with in
             let found = profile-opened p table key sealed opens in
             let storing : r ≡ firstRefusal Storing =
-            rw (found .1) (puts .answer ∙ put-number device profile (stored old)) in
+            rw (found .1) (puts .answer ∙ (put-sized device profile old size ∙ put-number device profile (stored old))) in
             record {
               answers = goes-on Opening Storing (sym (found .0)) refl storing ∙ sym behind;
               taken = λ z. (profile, sym (opened-passed p table key sealed (found .0)) ∙ found .1, puts .taken z);

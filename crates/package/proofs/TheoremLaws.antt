@@ -1,6 +1,6 @@
 -- The checks of making and of loading, list by list, and a package taken apart. Assumes nothing.
 use mathlib.Core.Path.{_≡_, refl, _∙_, sym, ap}
-use mathlib.Core.Bool.{Bool, true, false, _||_}
+use mathlib.Core.Bool.{true}
 use mathlib.Core.List.{List, [], _∷_, _++_}
 use Prim.Native.Nat.{ℕ, _+_}
 use native.Mathlib.Omega.{arith}
@@ -8,23 +8,22 @@ use lib.Dec.{T, eqb}
 use lib.ListN.{length, length-append}
 use lib.Seq.{take-at, drop-at}
 use borrow.Author.Tests.{eq-eqb}
-use Rattle.outcome.specs.Answer.{bad-size, bad-profile, bad-device, Check, _unless_, firstRefusal, pick}
+use Rattle.outcome.specs.Answer.{bad-size, bad-profile, bad-device, Check, _unless_, firstRefusal}
 use Rattle.outcome.proofs.Checks.{passed, passed-front, both-passed}
 use Rattle.parameters.specs.declared.Params.{Params}
 use Rattle.profile.specs.declared.Profile.{Profile}
 use Rattle.outcome.specs.Result.{done, refusalIn}
-use Rattle.profile.specs.Rules.{Class, contains, letters, classIn, isClass, valid}
+use Rattle.profile.specs.Rules.{Class, valid}
 use Rattle.profile.specs.Line.{lineOf, readLine}
-use Rattle.profile.proofs.RuleLaws.{holds, inside, parts}
+use Rattle.profile.proofs.RuleLaws.{holds, inside}
 use Rattle.profile.proofs.Theorems.{line-lengths-hold, reads-written}
 use Rattle.scheme.specs.Key.{keySize}
 use Rattle.scheme.specs.Sign.{signatureSize, signChecks}
 use Rattle.scheme.specs.Verify.{verifySizes, verifyChecks, verify}
 use Rattle.store.specs.declared.Device.{Device}
-use Rattle.store.specs.Keys.{hasClass, deviceOf, deviceOk}
+use Rattle.store.specs.Keys.{deviceOf, deviceOk}
 use Rattle.store.specs.Stored.{storeSize, stored}
 use Rattle.store.specs.Calls.{putNumber}
-use Rattle.store.proofs.KeyLaws.{device-class}
 use Rattle.store.proofs.PutLaws.{put-number}
 use Rattle.package.specs.Package.{
   packageMin,
@@ -147,33 +146,6 @@ module _ (p : Params) (sig line : List ℕ) (sized : length sig ≡ signatureSiz
   pub line-back : lineIn p (sig ++ line) ≡ line
   unfolding lineIn
   line-back = drop-at sig line (signatureSize p) sized
-
--- ---- the device of a valid profile
-
-or-second : (a b : Bool) → b ≡ true → (a || b) ≡ true
-or-second true b e = refl
-or-second false b e = e
-
--- the class that a table gives for some volts is one of the table
-class-known : (table : List Class) (volts letter : ℕ) → isClass (classIn table volts) letter ≡ true
-    → hasClass table letter ≡ true
-class-known [] volts letter e = e
-class-known (c ∷ cs) volts letter e = go (contains (c .volts) volts) e (class-known cs volts letter)
-  where
-    go : (b : Bool) → isClass (pick b (done (c .letter)) (classIn cs volts)) letter ≡ true
-        → (isClass (classIn cs volts) letter ≡ true → hasClass cs letter ≡ true)
-        → (eqb letter (c .letter) || hasClass cs letter) ≡ true
-    go true e rest = rw e
-    go false e rest = or-second (eqb letter (c .letter)) (hasClass cs letter) (rest e)
-
-pub device-of-valid : (table : List Class) (profile : Profile) (device : Device) → T (valid table profile)
-    → device .country ≡ profile .country → device .class ≡ profile .class → deviceOk table device ≡ true
-device-of-valid table profile device ok country class =
-    let rules = parts table profile ok in
-    let first : contains letters (device .country .first) ≡ true = rw country (rules .first) in
-    let second : contains letters (device .country .second) ≡ true = rw country (rules .second) in
-    device-class table device first second
-    ∙ rw class (class-known table (profile .volts) (profile .class) (rules .agrees))
 
 -- ---- the package of a valid profile whose signature verifies is accepted where device and store are right and putting
 -- is accepted

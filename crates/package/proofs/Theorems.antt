@@ -5,6 +5,7 @@ use mathlib.Core.List.{List, _++_}
 use Prim.Native.Nat.{ℕ}
 use lib.ListN.{length, take, drop, take-append-drop}
 use lib.Seq.{take-at}
+use borrow.Author.Tests.{eqb-true}
 use Rattle.outcome.specs.Answer.{firstRefusal}
 use Rattle.parameters.specs.declared.Params.{Params}
 use Rattle.parameters.specs.Sound.{Sound}
@@ -19,10 +20,10 @@ use Rattle.scheme.proofs.Accepted.{accepted as verifies, length-signature}
 use Rattle.store.specs.declared.Key.{Key}
 use Rattle.store.specs.declared.Device.{Device}
 use Rattle.store.specs.Keys.{keyOf, deviceOf, deviceKey, sameKey, deviceOk}
-use Rattle.store.specs.Stored.{stored}
+use Rattle.store.specs.Stored.{storeSize, stored}
 use Rattle.store.specs.Calls.{putNumber, Stores, Taken}
 use Rattle.store.specs.Reached.{Reached}
-use Rattle.store.proofs.KeyLaws.{same-eq, same-refl}
+use Rattle.store.proofs.KeyLaws.{same-eq, same-refl, device-of-valid}
 use Rattle.store.proofs.LookupLaws.{lookup-stored}
 use Rattle.store.proofs.PutLaws.{put-accepts, put-passed, takes}
 use Rattle.store.proofs.Reached.{reached-put}
@@ -35,22 +36,21 @@ use Rattle.package.proofs.TheoremLaws.{
   load-passed,
   storing-put,
   line-back,
-  device-of-valid,
   package-loads,
 }
 
 -- ---- what an accepted load says
 
-record Accepted (p : Params) (table : List Class) (key sealed country : List ℕ) (class : ℕ)
+pub record Accepted (p : Params) (table : List Class) (key sealed country : List ℕ) (class : ℕ)
     (old new : List ℕ) : Type 0 where
-  profile : Profile
-  reads : readLine table (lineIn p sealed) ≡ done profile
-  taken : Taken profile old new
-  passes : LoadPassed p table key sealed country class old
-  puts : putNumber (deviceOf country class) profile (stored old) ≡ 0
+  pub profile : Profile
+  pub reads : readLine table (lineIn p sealed) ≡ done profile
+  pub taken : Taken profile old new
+  pub passes : LoadPassed p table key sealed country class old
+  pub puts : putNumber (deviceOf country class) profile (stored old) ≡ 0
 
 module _ (p : Params) (table : List Class) where
-  accepted : (key sealed country : List ℕ) (class : ℕ) (old : List ℕ) (answer : ℕ) (new : List ℕ)
+  pub accepted : (key sealed country : List ℕ) (class : ℕ) (old : List ℕ) (answer : ℕ) (new : List ℕ)
       → Loads p table key sealed country class old answer new → answer ≡ 0
       → Accepted p table key sealed country class old new
   accepted key sealed country class old answer new loads e =
@@ -85,12 +85,15 @@ module _ (p : Params) (table : List Class) where
   pub load-reaches : LoadReaches p table
   load-reaches calls key sealed country class old answer new run loads = (
     λ e.
-        let t = accepted key sealed country class old answer new loads e in (
+        let t = accepted key sealed country class old answer new loads e in
+        let size = eqb-true (length old) storeSize (t .passes .whole) in (
           t .profile,
-          reached-put calls (deviceOf country class) (t .profile) old 0 new run
-              (takes (t .puts) (t .taken)),
+          t .reads,
+          reached-put table calls (deviceOf country class) (t .profile) old 0 new run
+              (writes-read table (lineIn p sealed) (t .profile) (t .reads) .1) (t .passes .device-ok) size
+              (takes size (t .puts) (t .taken)),
         ),
-    λ ne. subst (λ (image : List ℕ). Reached calls (stored image)) (sym (loads .kept ne)) run,
+    λ ne. subst (λ (image : List ℕ). Reached table calls (stored image)) (sym (loads .kept ne)) run,
   )
 
 -- ---- a made package

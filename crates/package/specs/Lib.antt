@@ -1,3 +1,4 @@
 pub mod Package
 pub mod Entries
 pub mod Theorems
+pub mod Images

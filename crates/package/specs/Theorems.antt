@@ -11,14 +11,14 @@ use Rattle.parameters.specs.declared.Params.{Params}
 use Rattle.profile.specs.declared.Profile.{Profile}
 use Rattle.outcome.specs.Result.{done}
 use Rattle.profile.specs.Rules.{Class, valid}
-use Rattle.profile.specs.Line.{lineOf}
+use Rattle.profile.specs.Line.{lineOf, readLine}
 use Rattle.scheme.specs.Key.{publicKey}
 use Rattle.scheme.specs.Verify.{verify}
 use Rattle.store.specs.Keys.{keyOf, deviceOf}
 use Rattle.store.specs.Stored.{capacity, storeSize, stored, find, isStored}
 use Rattle.store.specs.Calls.{lookupIn, newer, Taken}
 use Rattle.store.specs.Reached.{Call, Reached}
-use Rattle.package.specs.Package.{signatureIn}
+use Rattle.package.specs.Package.{signatureIn, lineIn}
 use Rattle.package.specs.Entries.{MakesPackage, Loads}
 
 module _ (p : Params) (table : List Class) where
@@ -54,8 +54,8 @@ module _ (p : Params) (table : List Class) where
   abbrev pub LoadReaches : Type 0
   LoadReaches =
       (calls : List Call) (key sealed country : List ℕ) (class : ℕ) (old : List ℕ) (answer : ℕ) (new : List ℕ)
-      → Reached calls (stored old) → Loads p table key sealed country class old answer new
+      → Reached table calls (stored old) → Loads p table key sealed country class old answer new
       → (answer ≡ 0
-      → (profile : Profile)
-      × Reached (calls ++ (record { device = deviceOf country class; profile = profile } ∷ [])) (stored new))
-      × ((answer ≡ 0 → ⊥) → Reached calls (stored new))
+      → (profile : Profile) × (readLine table (lineIn p sealed) ≡ done profile)
+      × Reached table (calls ++ (record { device = deviceOf country class; profile = profile } ∷ [])) (stored new))
+      × ((answer ≡ 0 → ⊥) → Reached table calls (stored new))

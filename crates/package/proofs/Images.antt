@@ -1,0 +1,271 @@
+-- The theorems of specs/Images.antt. Assumes nothing.
+use mathlib.Core.Path.{_≡_, refl, _∙_, sym, ap, subst}
+use mathlib.Core.Bool.{Bool, true, false}
+use mathlib.Core.List.{List, [], _∷_, _++_}
+use mathlib.Core.Logic.{_⊎_, inl, inr}
+use Prim.Native.Nat.{ℕ}
+use native.Mathlib.Omega.{arith}
+use lib.Dec.{T, eqb}
+use lib.ListN.{length, take, drop, replicate, length-replicate, take-append-drop}
+use lib.Seq.{take-at}
+use borrow.Author.Tests.{eqb-true, eq-eqb}
+use Rattle.outcome.specs.Answer.{
+  bad-size,
+  bad-profile,
+  not-stored,
+  bad-device,
+  Check,
+  _unless_,
+  firstRefusal,
+  pick,
+  AnswersFront,
+}
+use Rattle.outcome.specs.Result.{Result, done, refused}
+use Rattle.outcome.proofs.Checks.{passed}
+use Rattle.parameters.specs.declared.Params.{Params}
+use Rattle.parameters.specs.Sound.{Sound}
+use Rattle.profile.specs.declared.Profile.{Profile}
+use Rattle.profile.specs.Rules.{Class, valid}
+use Rattle.profile.specs.Line.{longest, lineOf, readLine}
+use Rattle.profile.proofs.RuleLaws.{holds}
+use Rattle.profile.proofs.Theorems.{writes-read}
+use Rattle.scheme.specs.Sign.{signatureSize}
+use Rattle.store.specs.declared.Key.{Key}
+use Rattle.store.specs.declared.Device.{Device}
+use Rattle.store.specs.Keys.{deviceKey, deviceOf, deviceOk}
+use Rattle.store.specs.Stored.{storeSize, stored, find, isDone, isStored}
+use Rattle.store.specs.Calls.{lookupIn, foundIn, foundLine, validIn, lookupLineChecks, LooksUp}
+use Rattle.store.specs.Reached.{Holds}
+use Rattle.store.proofs.KeyLaws.{device-of-valid}
+use Rattle.store.proofs.LookupLaws.{lookup-sound, lookup-find, lookup-stored}
+use Rattle.store.proofs.OneSlot.{taken-size}
+use Rattle.store.proofs.PutLaws.{put-passed}
+use Rattle.store.proofs.Reached.{reached-hold, find-valid, zeros-empty}
+use Rattle.package.specs.Package.{signatureIn, lineIn}
+use Rattle.package.specs.Entries.{Loads}
+use Rattle.package.specs.Images.{
+  Load,
+  MadeBy,
+  callsBy,
+  mapBy,
+  mapChecks,
+  AsMap,
+  NoneBroken,
+  CameIn,
+  LookedUpCameIn,
+  FindsLine,
+  LoadedFound,
+  LineLoads,
+}
+use Rattle.package.proofs.Theorems.{accepted, made-loads}
+use Rattle.package.proofs.FromLine.{made}
+use Rattle.package.proofs.Runs.{image-reached, Stored, run-found}
+
+-- an answer at the front of a buffer, by other checks of the same outcome
+front-as : {cs ds : List Check} {made made′ old : List ℕ} {before answer : ℕ} {lent : List ℕ} {after : ℕ}
+    → firstRefusal cs ≡ firstRefusal ds → (answer ≡ 0 → made ≡ made′)
+    → AnswersFront cs made old before answer lent after → AnswersFront ds made′ old before answer lent after
+front-as {made = made} {made′ = made′} {old = old} {before = before} {answer = answer} same bytes a =
+    record {
+      answers = record { answer = a .answers .answer ∙ same; content = a .answers .content ∙ content (eqb answer 0) refl };
+      size = a .size ∙ size (eqb answer 0) refl;
+    }
+  where
+    content : (b : Bool) → eqb answer 0 ≡ b
+        → pick b (made ++ drop (length made) old) old ≡ pick b (made′ ++ drop (length made′) old) old
+    content true e = ap (λ (l : List ℕ). l ++ drop (length l) old) (bytes (eqb-true answer 0 e))
+    content false e = refl
+
+    size : (b : Bool) → eqb answer 0 ≡ b → pick b (length made) before ≡ pick b (length made′) before
+    size true e = ap length (bytes (eqb-true answer 0 e))
+    size false e = refl
+
+-- ---- a lookup that finds a valid profile
+
+module _ (table : List Class) (image country : List ℕ) (class : ℕ) (profile : Profile) (two : length country ≡ 2)
+    (fine : deviceOk table (deviceOf country class) ≡ true) (size : length image ≡ storeSize)
+    (found : foundIn table image country class ≡ done profile) (ok : T (valid table profile)) where
+  pub finds-line : FindsLine table image country class (lineOf profile)
+  finds-line old before answer lent after room looks =
+      let rules : valid table profile ≡ true = holds (valid table profile) ok in
+      let zero : firstRefusal (lookupLineChecks table image country class old) ≡ 0 =
+      rw (eq-eqb (length country) 2 two, fine, eq-eqb (length image) storeSize size)
+      (rw (eq-eqb (length old) longest room, found) (rw rules)) in
+      let answered : answer ≡ 0 = looks .answers .answer ∙ zero in
+      let whole = rw (answered, found) at (looks .answers .content) in
+      let long = rw (answered, found) at (looks .size) in
+      (answered, whole, long)
+
+-- ---- one load, into any image
+
+module _ (table : List Class) (p : Params) where
+  pub loaded-found : LoadedFound table p
+  loaded-found key sealed country class old answer new loads e =
+      let t = accepted p table key sealed country class old answer new loads e in
+      let device : Device = deviceOf country class in
+      let back = writes-read table (lineIn p sealed) (t .profile) (t .reads) in
+      let size = taken-size (eqb-true (length old) storeSize (t .passes .whole)) (t .taken) in
+      let its = put-passed device (t .profile) (stored old) (t .puts) .0 in
+      let found =
+      lookup-stored table device (t .profile) (stored old) (stored new) (t .taken .stores) (t .passes .device-ok) its in
+      subst (FindsLine table new country class) (back .0)
+      (finds-line table new country class (t .profile) (eqb-true (length country) 2 (t .passes .two))
+      (t .passes .device-ok) size found (back .1))
+
+  pub line-loads : Sound p → LineLoads table p
+  line-loads sound private master salt line lent sealed before size makes =
+      let m = made p table private master salt line makes in
+      let back = writes-read table line (m .profile) (m .read) in (
+        m .profile,
+        m .read,
+        λ country class old answer new two same letter whole newer room loads.
+            let both =
+            made-loads p table sound private master salt (m .profile) lent sealed before size country class old answer new
+            (m .makes) two same letter whole newer room loads in
+            let fine = device-of-valid table (m .profile) (deviceOf country class) (back .1) same letter in
+            let kept = taken-size whole (loads .taken (both .0) .2) in (
+              both .0,
+              both .1,
+              subst (FindsLine table new country class) (back .0)
+                  (finds-line table new country class (m .profile) two fine kept (both .1) (back .1)),
+            ),
+      )
+
+-- ---- images that loads made
+
+module _ (table : List Class) (loads : List Load) (image : List ℕ) (run : MadeBy table loads image) where
+  whole : length image ≡ storeSize
+  whole = image-reached table loads image run .0
+
+  held : Holds table (callsBy table loads) (stored image)
+  held = reached-hold table (callsBy table loads) (stored image) (image-reached table loads image run .1)
+
+  module _ (country : List ℕ) (class : ℕ) (old : List ℕ) where
+    abbrev device : Device
+    device = deviceOf country class
+
+    abbrev inMap : Result Profile
+    inMap = find (deviceKey device) (mapBy table loads)
+
+    -- what a sound setting finds
+    found-map : deviceOk table device ≡ true → foundIn table image country class ≡ inMap
+    found-map fine = lookup-sound table device (stored image) fine ∙ held .as-map (deviceKey device)
+
+    -- what is found is valid
+    no-broken : (r : Result Profile) → inMap ≡ r
+        → _≡_ {A = ℕ} (pick (isDone r) (pick (validIn table r) 0 5) 9) (pick (isDone r) 0 9)
+    no-broken (done q) e =
+        let ok = find-valid table (deviceKey device) (stored image) q (held .all-valid) (held .as-map (deviceKey device) ∙ e) in
+        ap (λ (b : Bool). pick b 0 5) (holds (valid table q) ok)
+    no-broken (refused r) e = refl
+
+    same-number : firstRefusal (lookupLineChecks table image country class old)
+        ≡ firstRefusal (mapChecks table loads country class old)
+    same-number = go (eqb (length country) 2) (deviceOk table device) refl
+      where
+        go : (two fine : Bool) → deviceOk table device ≡ fine
+            → firstRefusal
+            (bad-device unless two
+            ∷ bad-device unless fine
+            ∷ bad-size unless eqb (length image) storeSize
+            ∷ bad-size unless eqb (length old) longest
+            ∷ not-stored unless isDone (foundIn table image country class)
+            ∷ bad-profile unless validIn table (foundIn table image country class)
+            ∷ [])
+            ≡ firstRefusal
+            (bad-device unless two
+            ∷ bad-device unless fine
+            ∷ bad-size unless eqb (length old) longest
+            ∷ not-stored unless isStored (deviceKey device) (mapBy table loads)
+            ∷ [])
+        go false fine e = refl
+        go true false e = refl
+        go true true e =
+            rw (eq-eqb (length image) storeSize whole, found-map e)
+            (ap (λ (n : ℕ). pick (eqb (length old) longest) n 1) (no-broken inMap refl))
+
+    module _ (before answer : ℕ) (lent : List ℕ) (after : ℕ)
+        (looks : LooksUp table image country class old before answer lent after) where
+      passes : answer ≡ 0 → firstRefusal (lookupLineChecks table image country class old) ≡ 0
+      passes e = sym (looks .answers .answer) ∙ e
+
+      settled : answer ≡ 0 → deviceOk table device ≡ true
+      settled e = holds (deviceOk table device) (passed (lookupLineChecks table image country class old) (passes e) .1 .0)
+
+      answers-map : AnswersFront (mapChecks table loads country class old) (foundLine inMap) old before answer lent after
+      answers-map = front-as same-number (λ e. ap foundLine (found-map (settled e))) looks
+
+pub as-map : (table : List Class) → AsMap table
+as-map table loads image country class old before answer lent after run looks =
+    answers-map table loads image run country class old before answer lent after looks
+
+pub none-broken : (table : List Class) → NoneBroken table
+none-broken table loads image country class old before answer lent after run looks five =
+    go (eqb (length country) 2) (deviceOk table (deviceOf country class)) (eqb (length old) longest)
+    (isStored (deviceKey (deviceOf country class)) (mapBy table loads))
+    (sym (as-map table loads image country class old before answer lent after run looks .answers .answer) ∙ five)
+  where
+    go : (a b c d : Bool)
+        → firstRefusal
+        (bad-device unless a ∷ bad-device unless b ∷ bad-size unless c ∷ not-stored unless d ∷ []) ≡ 5 → ⊥
+    go false b c d e = let z : _≡_ {A = ℕ} 10 5 = e in omega arith
+    go true false c d e = let z : _≡_ {A = ℕ} 10 5 = e in omega arith
+    go true true false d e = let z : _≡_ {A = ℕ} 1 5 = e in omega arith
+    go true true true false e = let z : _≡_ {A = ℕ} 9 5 = e in omega arith
+    go true true true true e = let z : _≡_ {A = ℕ} 0 5 = e in omega arith
+
+-- ---- what a lookup finds came in by a load
+
+-- a result that is there
+the-done : (r : Result Profile) → T (isDone r) → (q : Profile) × (r ≡ done q)
+the-done (done q) t = (q, refl)
+the-done (refused r) t = absurd t
+
+-- a load that was answered 0 and stored q: its line is that of q, and is signed
+came-in : (table : List Class) (loads : List Load) (country : List ℕ) (class : ℕ) (q : Profile) (line : List ℕ)
+    → line ≡ lineOf q → Stored table (replicate storeSize 0) loads (deviceKey (deviceOf country class)) q
+    → CameIn table loads country class line
+unfolding signatureIn lineIn
+came-in table loads country class q line is w =
+    let l = w .load in
+    let t = accepted (l .sizes) table (l .key) (l .sealed) (l .country) (l .class) (w .found) 0 (w .left) (w .answered) refl in
+    let same : line ≡ lineIn (l .sizes) (l .sealed) =
+    is ∙ writes-read table (lineIn (l .sizes) (l .sealed)) q (w .reads) .0 in
+    record {
+      earlier = w .earlier;
+      load = l;
+      later = w .later;
+      found = w .found;
+      left = w .left;
+      order = w .order;
+      reached = w .reached;
+      answered = w .answered;
+      device = w .device;
+      parts = rw same (sym (take-append-drop (signatureSize (l .sizes)) (l .sealed)));
+      verified = rw same (t .passes .verified);
+    }
+
+pub looked-up-came-in : (table : List Class) → LookedUpCameIn table
+unfolding find
+looked-up-came-in table loads image country class old before answer lent after run looks e =
+    let device : Device = deviceOf country class in
+    let tests = passed (lookupLineChecks table image country class old) (sym (looks .answers .answer) ∙ e) in
+    let found = the-done (foundIn table image country class) (tests .1 .1 .1 .1 .0) in
+    let q = found .0 in
+    let stands : find (deviceKey device) (stored image) ≡ done q = lookup-find table device (stored image) q (found .1) in
+    let content = rw (e, found .1) at (looks .answers .content) in
+    let long = rw (e, found .1) at (looks .size) in
+    let line : take after lent ≡ lineOf q =
+    rw content (take-at (lineOf q) (drop (length (lineOf q)) old) after (sym long)) in
+    let size = length-replicate {A = ℕ} storeSize 0 in
+    came-in table loads country class q (take after lent) line
+    (from (run-found table loads (replicate storeSize 0) image size run (deviceKey device) q stands))
+  where
+    from : {k : Key} {q : Profile}
+        → (find k (stored (replicate storeSize 0)) ≡ done q) ⊎ Stored table (replicate storeSize 0) loads k q
+        → Stored table (replicate storeSize 0) loads k q
+    from {k} {q} (inl g) =
+        let never : find k [] ≡ done q = subst (λ (ps : List Profile). find k ps ≡ done q) zeros-empty g in
+        let z : _≡_ {A = ℕ} 0 1 = cc in
+        absurd (omega arith)
+    from (inr w) = w
