@@ -11,13 +11,13 @@ use Rattle.outcome.specs.Result.{done}
 use Rattle.parameters.specs.declared.Params.{Params}
 use Rattle.profile.specs.declared.Profile.{Profile}
 use Rattle.profile.specs.Rules.{Class}
-use Rattle.profile.specs.Line.{readLine}
+use Rattle.profile.specs.Line.{longest, readLine}
 use Rattle.scheme.specs.Key.{keySize}
 use Rattle.scheme.specs.Duty.{OpensKey, Excuses, committed, responded}
 use Rattle.scheme.specs.Entries.{MakesKey, Signs, Verifies, VerifiesRound}
 use Rattle.store.specs.Keys.{keyOf, deviceOf}
 use Rattle.store.specs.Stored.{capacity, storeSize, stored, find, isStored}
-use Rattle.store.specs.Calls.{lookupIn, newer}
+use Rattle.store.specs.Calls.{lookupIn, newer, LooksUp}
 use Rattle.package.specs.Entries.{MakesFromLine, Loads}
 use Rattle.duty.specs.declared.Signed.{Signed}
 use Rattle.duty.specs.declared.FourRounds.{FourRounds}
@@ -54,8 +54,8 @@ module _ (p : Params) where
         ⊎ (Excuses p (responded p salt i β 0 r0) (responded p salt i β 1 r1)
         ⊎ Excuses p (responded p salt i β′ 0 r0′) (responded p salt i β′ 1 r1′))))
 
-  -- A key is made, a package is made of a line into what was lent, and what was made is loaded into a store under that key,
-  -- for a device that is set to a country and class: each answer is its entry's on these very arguments.
+  -- A key is made, a package is made of a line into what was lent, what was made is loaded into a store under that key, for a
+  -- device that is set to a country and class, and this pair is looked up: each answer is its entry's on these very arguments.
   pub record MakesAndLoads (table : List Class) (private master salt line country : List ℕ) (class : ℕ)
       (store old : List ℕ) (r : Loaded) (store′ out : List ℕ) : Type 0 where
     pub public : List ℕ
@@ -64,11 +64,17 @@ module _ (p : Params) where
     pub size : ℕ
     pub make-answer : MakesFromLine p table private master salt line old 0 (r .make) out size
     pub load-answer : Loads p table public (take size out) country class store (r .load) store′
+    -- so many bytes were found, in a buffer of zeros
+    pub found : List ℕ
+    pub length-found : ℕ
+    pub lookup-answer : LooksUp table store′ country class (replicate longest 0) 0 (r .lookup) found length-found
     -- where making answers 0, the line means a profile; and where this is of the device's own country and class, newer than the
-    -- one stored, if any, and its pair is stored or there is room: the key was made, loading answers 0, and the lookup gives it
+    -- one stored, if any, and its pair is stored or there is room: the key was made, loading answers 0, the profile is found, and
+    -- the lookup answers 0 and writes the line
     pub loads : r .make ≡ 0 → (profile : Profile) × (readLine table line ≡ done profile)
         × (length country ≡ 2 → deviceOf country class .country ≡ profile .country
         → class ≡ profile .class → length store ≡ storeSize
         → newer profile (find (keyOf profile) (stored store)) ≡ true
         → (isStored (keyOf profile) (stored store) || ltb (length (stored store)) capacity) ≡ true
-        → (r .key ≡ 0) × (r .load ≡ 0) × (lookupIn table (deviceOf country class) (stored store′) ≡ done profile))
+        → (r .key ≡ 0) × (r .load ≡ 0) × (lookupIn table (deviceOf country class) (stored store′) ≡ done profile)
+        × (r .lookup ≡ 0) × (take length-found found ≡ line))

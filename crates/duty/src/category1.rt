@@ -5,11 +5,13 @@ use gridprofile::category1::gridprofile_make_package as make_package;
 use gridprofile::category1::gridprofile_sign as sign;
 use gridprofile::category1::gridprofile_verify as verify;
 use gridprofile::category1::gridprofile_verify_round as verify_round;
+use gridprofile::gridprofile_lookup as lookup;
 use parameters::CATEGORY1 as P;
 ghost use Rattle.parameters.specs.Categories.{category1 as p};
 use crate::FourRounds;
 use crate::Loaded;
 use crate::Signed;
+use profile::LONGEST;
 ghost use Rattle.profile.specs.Rules.{classes};
 ghost use Rattle.duty.specs.Carried.{SignsAndVerifies, VerifiesFourRounds, MakesAndLoads};
 
@@ -72,7 +74,8 @@ pub fn verify_four_rounds(
     }
 }
 
-// A package is made of a line and loaded into a store under the key that make_key wrote.
+// A package is made of a line and loaded into a store under the key that make_key wrote, and the device's pair is looked
+// up.
 pub fn make_and_load(
     private: &[u8],
     master: &[u8],
@@ -92,9 +95,13 @@ pub fn make_and_load(
     let key_answer = make_key(private, &mut public);
     let make_answer = make_package(private, master, salt, line, out, &mut length);
     let load_answer = load(store, &public, &out[..length], country, class);
+    let mut found = [0u8; LONGEST];
+    let mut found_length: usize = 0;
+    let lookup_answer = lookup(store, country, class, &mut found, &mut found_length);
     Loaded {
         key: key_answer,
         make: make_answer,
         load: load_answer,
+        lookup: lookup_answer,
     }
 }

@@ -17,9 +17,10 @@ pub struct FourRounds {
     pub d: u8,
 }
 
-// What making the key, making the package and loading it answered.
+// What making the key, making the package, loading it and looking its pair up answered.
 pub struct Loaded {
     pub key: u8,
     pub make: u8,
     pub load: u8,
+    pub lookup: u8,
 }

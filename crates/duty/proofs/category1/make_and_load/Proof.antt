@@ -1,4 +1,4 @@
--- `make_and_load`: what was made lies within what was lent, and the three answers, put together. Assumes nothing.
+-- `make_and_load`: what was made lies within what was lent, and the four answers, put together. Assumes nothing.
 use borrow.Author.Needs.{needs}
 use Rattle.parameters.proofs.Sound.{sound-1}
 use Rattle.duty.proofs.CarryLoad.{made-within, made-length, makes-and-loads}
@@ -7,11 +7,13 @@ use Rattle.duty.proofs.category1.make_and_load.Tie as tie
 
 returns : tie.Need-returns
 returns c =
-    let loaded = c .before .before in
+    let looked = c .before in
+    let loaded = looked .before .before .before .before .before .before in
     let made = loaded .before .before .before .before .before .before in
     let keyed = made .before .before .before .before in
     makes-and-loads sound-1 (keyed .gridprofile-make-key .ensures) (made .gridprofile-make-package .ensures)
     (loaded .gridprofile-load .ensures)
+    (looked .gridprofile-lookup .ensures)
 
 pub make-and-load-spec : {M : Type 1} → statement M
 make-and-load-spec =
@@ -23,6 +25,8 @@ make-and-load-spec =
     (λ c. search needs)
     (λ c. made-within (c .before .before .before .before .gridprofile-make-package .ensures))
     (λ c. made-length (c .before .before .before .before .before .gridprofile-make-package .ensures))
+    (λ c κs. search needs)
+    (λ c. search needs)
     (λ c κs. search needs)
     (λ c. search needs)
     (λ c. search needs)
