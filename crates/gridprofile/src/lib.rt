@@ -2,58 +2,44 @@
 // category decide stands in the category's module; the rest is here, with the contract of the function that it calls.
 pub mod category1;
 
-use outcome::BAD_SIZE;
-use preview::Previewed;
-ghost use mathlib.Core.Path.{_≡_};
-ghost use lib.ListN.{length};
-ghost use Rattle.outcome.specs.Answer.{Answers};
-ghost use Rattle.shake.specs.Shake.{shake128};
-ghost use Rattle.packing.specs.Packing.{pack, unpack, packChecks, unpackChecks};
+ghost use Rattle.shake.specs.Shake.{Hashes128};
+ghost use Rattle.packing.specs.Packing.{PacksValues, UnpacksValues, PacksExponents, UnpacksExponents};
 ghost use Rattle.profile.specs.Rules.{classes};
 ghost use Rattle.image.specs.Entries.{ReadsImage, WritesImage};
 ghost use Rattle.store.specs.Calls.{LooksUp};
-ghost use Rattle.gridprofile.specs.Listing.{PreviewsTo};
+ghost use Rattle.preview.specs.Preview.{PreviewsTo};
 
 #[no_mangle]
 pub extern "C" fn gridprofile_shake128(input: &[u8], out: &mut [u8])
-    ensures { λ r. ⌜ now (out .exit) ≡ shake128 (now (input .entry)) (length (now (out .entry))) ⌝ }
+    ensures { λ r. ⌜ Hashes128 (now (input .entry)) (now (out .entry)) (now (out .exit)) ⌝ }
 {
     shake::shake128(input, out);
 }
 
 #[no_mangle]
 pub extern "C" fn gridprofile_pack_values(values: &[u8], packed: &mut [u8]) -> u8
-    ensures { λ r.
-        ⌜ Answers (packChecks 7 127 (now (values .entry)) (length (now (packed .entry))))
-        (pack 7 (now (values .entry))) (now (packed .entry)) r (now (packed .exit)) ⌝ }
+    ensures { λ r. ⌜ PacksValues (now (values .entry)) (now (packed .entry)) r (now (packed .exit)) ⌝ }
 {
     packing::pack_values(values, packed)
 }
 
 #[no_mangle]
 pub extern "C" fn gridprofile_unpack_values(packed: &[u8], values: &mut [u8]) -> u8
-    ensures { λ r.
-        ⌜ Answers (unpackChecks 7 127 (length (now (values .entry))) (now (packed .entry)))
-        (unpack 7 (length (now (values .entry))) (now (packed .entry))) (now (values .entry)) r (now (values .exit)) ⌝ }
+    ensures { λ r. ⌜ UnpacksValues (now (packed .entry)) (now (values .entry)) r (now (values .exit)) ⌝ }
 {
     packing::unpack_values(packed, values)
 }
 
 #[no_mangle]
 pub extern "C" fn gridprofile_pack_exponents(exponents: &[u8], packed: &mut [u8]) -> u8
-    ensures { λ r.
-        ⌜ Answers (packChecks 3 7 (now (exponents .entry)) (length (now (packed .entry))))
-        (pack 3 (now (exponents .entry))) (now (packed .entry)) r (now (packed .exit)) ⌝ }
+    ensures { λ r. ⌜ PacksExponents (now (exponents .entry)) (now (packed .entry)) r (now (packed .exit)) ⌝ }
 {
     packing::pack_exponents(exponents, packed)
 }
 
 #[no_mangle]
 pub extern "C" fn gridprofile_unpack_exponents(packed: &[u8], exponents: &mut [u8]) -> u8
-    ensures { λ r.
-        ⌜ Answers (unpackChecks 3 7 (length (now (exponents .entry))) (now (packed .entry)))
-        (unpack 3 (length (now (exponents .entry))) (now (packed .entry)))
-        (now (exponents .entry)) r (now (exponents .exit)) ⌝ }
+    ensures { λ r. ⌜ UnpacksExponents (now (packed .entry)) (now (exponents .entry)) r (now (exponents .exit)) ⌝ }
 {
     packing::unpack_exponents(packed, exponents)
 }
@@ -80,13 +66,7 @@ pub extern "C" fn gridprofile_preview(input: &[u8], out: &mut [u8], length: &mut
         ⌜ PreviewsTo classes (now (input .entry)) (now (out .entry)) (now (length .entry)) r
         (now (out .exit)) (now (length .exit)) ⌝ }
 {
-    match preview::preview(input, out) {
-        Previewed::Length(n) => {
-            *length = n;
-            0
-        }
-        Previewed::BadSize => BAD_SIZE,
-    }
+    preview::preview_into(input, out, length)
 }
 
 #[no_mangle]

@@ -7,7 +7,7 @@ use mathlib.Core.List.{List, [], _∷_}
 use Prim.Native.Nat.{ℕ, zero, suc, _+_, _*_, _/_, _%_, _^_}
 use lib.Dec.{ltb, eqb}
 use lib.ListN.{length}
-use Rattle.outcome.specs.Answer.{Check, _unless_, bad-size, bad-field, pick}
+use Rattle.outcome.specs.Answer.{Check, _unless_, bad-size, bad-field, pick, Answers}
 
 -- the number whose digits in base 2 ^ w are the list, the lowest first
 unfoldable pub number : ℕ → List ℕ → ℕ
@@ -52,3 +52,26 @@ unpackChecks w m n bytes =
     bad-field unless allBelow m (unpack w n bytes) ∷
     bad-field unless spareZero w n bytes ∷
     []
+
+-- ---- what the entries promise, of a buffer that held `old`: the answer r, and what the buffer holds then
+
+-- packing fields of width w below m, as many as there are
+abbrev pub Packs : (w m : ℕ) (fields old : List ℕ) (r : ℕ) (new : List ℕ) → Type 0
+Packs w m fields old = Answers (packChecks w m fields (length old)) (pack w fields) old
+
+-- unpacking as many fields as the buffer has places
+abbrev pub Unpacks : (w m : ℕ) (packed old : List ℕ) (r : ℕ) (new : List ℕ) → Type 0
+Unpacks w m packed old = Answers (unpackChecks w m (length old) packed) (unpack w (length old) packed) old
+
+-- values have 7 bits and are below 127, exponents 3 bits and below 7
+abbrev pub PacksValues : (values old : List ℕ) (r : ℕ) (new : List ℕ) → Type 0
+PacksValues = Packs 7 127
+
+abbrev pub UnpacksValues : (packed old : List ℕ) (r : ℕ) (new : List ℕ) → Type 0
+UnpacksValues = Unpacks 7 127
+
+abbrev pub PacksExponents : (exponents old : List ℕ) (r : ℕ) (new : List ℕ) → Type 0
+PacksExponents = Packs 3 7
+
+abbrev pub UnpacksExponents : (packed old : List ℕ) (r : ℕ) (new : List ℕ) → Type 0
+UnpacksExponents = Unpacks 3 7

@@ -11,17 +11,9 @@ ghost use mathlib.Core.List.{_++_};
 ghost use Prim.Native.Nat.{ℕ, _+_, _-_, _*_, _/_, _^_, _<_, _≤_, max};
 ghost use lib.Dec.{ltb};
 ghost use lib.ListN.{length, take, drop};
-ghost use Rattle.outcome.specs.Answer.{firstRefusal, Answers, pick};
-ghost use Rattle.packing.specs.Packing.{
-  number,
-  digits,
-  size,
-  pack,
-  unpack,
-  allBelow,
-  packChecks,
-  unpackChecks,
-};
+ghost use Rattle.outcome.specs.Answer.{firstRefusal, pick};
+ghost use Rattle.packing.specs.Packing.{number, digits, size, allBelow, packChecks, unpackChecks, Unpacks};
+ghost use Rattle.packing.specs.Packing.{PacksValues, UnpacksValues, PacksExponents, UnpacksExponents};
 
 fn wide(x: u8) -> u64
     ensures { λ r. ⌜ r ≡ x ⌝ }
@@ -205,10 +197,7 @@ fn unpack_from_scratch(packed: &[u8], scratch: &[u8], fields: &mut [u8], w: usiz
     requires { ⌜ length (now fields) ≤ length (now scratch) ⌝ }
     requires { ⌜ take (length (now fields) / 8 * 8) (now scratch)
         ≡ digits w (length (now fields) / 8 * 8) (number 8 (now packed)) ⌝ }
-    ensures { λ r.
-        ⌜ Answers (unpackChecks w (2 ^ w - 1) (length (now (fields .entry))) (now (packed .entry)))
-        (unpack w (length (now (fields .entry))) (now (packed .entry)))
-        (now (fields .entry)) r (now (fields .exit)) ⌝ }
+    ensures { λ r. ⌜ Unpacks w (2 ^ w - 1) (now (packed .entry)) (now (fields .entry)) r (now (fields .exit)) ⌝ }
 {
     let n = fields.len();
     let groups = n / 8;
@@ -225,10 +214,7 @@ fn unpack_from_scratch(packed: &[u8], scratch: &[u8], fields: &mut [u8], w: usiz
 // At most 256 values from a string of their size: the groups are read once.
 fn unpack_few_values(packed: &[u8], values: &mut [u8]) -> u8
     requires { ⌜ (length (now packed) ≡ size 7 (length (now values))) × (length (now values) ≤ 256) ⌝ }
-    ensures { λ r.
-        ⌜ Answers (unpackChecks 7 127 (length (now (values .entry))) (now (packed .entry)))
-        (unpack 7 (length (now (values .entry))) (now (packed .entry)))
-        (now (values .entry)) r (now (values .exit)) ⌝ }
+    ensures { λ r. ⌜ UnpacksValues (now (packed .entry)) (now (values .entry)) r (now (values .exit)) ⌝ }
 {
     let mut scratch = [0u8; 256];
     regroup(packed, &mut scratch, values.len() / 8, 8, 7, 7, 8);
@@ -238,10 +224,7 @@ fn unpack_few_values(packed: &[u8], values: &mut [u8]) -> u8
 // Exponents likewise.
 fn unpack_few_exponents(packed: &[u8], exponents: &mut [u8]) -> u8
     requires { ⌜ (length (now packed) ≡ size 3 (length (now exponents))) × (length (now exponents) ≤ 256) ⌝ }
-    ensures { λ r.
-        ⌜ Answers (unpackChecks 3 7 (length (now (exponents .entry))) (now (packed .entry)))
-        (unpack 3 (length (now (exponents .entry))) (now (packed .entry)))
-        (now (exponents .entry)) r (now (exponents .exit)) ⌝ }
+    ensures { λ r. ⌜ UnpacksExponents (now (packed .entry)) (now (exponents .entry)) r (now (exponents .exit)) ⌝ }
 {
     let mut scratch = [0u8; 256];
     regroup(packed, &mut scratch, exponents.len() / 8, 8, 3, 3, 8);
@@ -252,10 +235,7 @@ fn unpack_few_exponents(packed: &[u8], exponents: &mut [u8]) -> u8
 // refusal leaves the buffer as it was, at most 256 fields are unpacked into scratch first, and more are read twice.
 
 pub fn pack_values(values: &[u8], packed: &mut [u8]) -> u8
-    ensures { λ r.
-        ⌜ Answers (packChecks 7 127 (now (values .entry)) (length (now (packed .entry))))
-        (pack 7 (now (values .entry)))
-        (now (packed .entry)) r (now (packed .exit)) ⌝ }
+    ensures { λ r. ⌜ PacksValues (now (values .entry)) (now (packed .entry)) r (now (packed .exit)) ⌝ }
 {
     let refusal = pack_refusal(values, packed.len(), 7, 127);
     if refusal != 0 {
@@ -268,10 +248,7 @@ pub fn pack_values(values: &[u8], packed: &mut [u8]) -> u8
 }
 
 pub fn unpack_values(packed: &[u8], values: &mut [u8]) -> u8
-    ensures { λ r.
-        ⌜ Answers (unpackChecks 7 127 (length (now (values .entry))) (now (packed .entry)))
-        (unpack 7 (length (now (values .entry))) (now (packed .entry)))
-        (now (values .entry)) r (now (values .exit)) ⌝ }
+    ensures { λ r. ⌜ UnpacksValues (now (packed .entry)) (now (values .entry)) r (now (values .exit)) ⌝ }
 {
     let n = values.len();
     if packed.len() != packed_size(n, 7) {
@@ -292,10 +269,7 @@ pub fn unpack_values(packed: &[u8], values: &mut [u8]) -> u8
 }
 
 pub fn pack_exponents(exponents: &[u8], packed: &mut [u8]) -> u8
-    ensures { λ r.
-        ⌜ Answers (packChecks 3 7 (now (exponents .entry)) (length (now (packed .entry))))
-        (pack 3 (now (exponents .entry)))
-        (now (packed .entry)) r (now (packed .exit)) ⌝ }
+    ensures { λ r. ⌜ PacksExponents (now (exponents .entry)) (now (packed .entry)) r (now (packed .exit)) ⌝ }
 {
     let refusal = pack_refusal(exponents, packed.len(), 3, 7);
     if refusal != 0 {
@@ -308,10 +282,7 @@ pub fn pack_exponents(exponents: &[u8], packed: &mut [u8]) -> u8
 }
 
 pub fn unpack_exponents(packed: &[u8], exponents: &mut [u8]) -> u8
-    ensures { λ r.
-        ⌜ Answers (unpackChecks 3 7 (length (now (exponents .entry))) (now (packed .entry)))
-        (unpack 3 (length (now (exponents .entry))) (now (packed .entry)))
-        (now (exponents .entry)) r (now (exponents .exit)) ⌝ }
+    ensures { λ r. ⌜ UnpacksExponents (now (packed .entry)) (now (exponents .entry)) r (now (exponents .exit)) ⌝ }
 {
     let n = exponents.len();
     if packed.len() != packed_size(n, 3) {

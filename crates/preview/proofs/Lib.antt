@@ -1,3 +1,4 @@
 pub mod CutLaws
 pub mod RowLaws
 pub mod EntryLaws
+pub mod Listed

@@ -6,7 +6,7 @@ use mathlib.Core.List.{List, [], _∷_, _++_}
 use Prim.Native.Nat.{ℕ, _-_, _≤_, _<_}
 use lib.Dec.{eqb}
 use lib.ListN.{length, take, drop}
-use Rattle.outcome.specs.Answer.{bad-size, Check, _unless_, pick}
+use Rattle.outcome.specs.Answer.{bad-size, Check, _unless_, pick, Answers}
 use Rattle.decimal.specs.Decimal.{decimal}
 use Rattle.profile.specs.declared.Profile.{Profile}
 use Rattle.outcome.specs.Result.{Result, done, refused, answer, numberIn}
@@ -133,3 +133,11 @@ pub record Previews (table : List Class) (input old : List ℕ) (r : Previewed) 
   pub shows : Shows table input text
   pub answered : previewAnswer r ≡ answer (previewChecks old) (length text)
   pub content : lent ≡ pick (eqb (numberIn (previewAnswer r)) 0) (text ++ drop (length text) old) old
+
+-- The same with a number for an answer, and the length in a number that is lent, which a refusal leaves as it was
+pub record PreviewsTo (table : List Class) (input old : List ℕ) (before answer : ℕ) (lent : List ℕ) (after : ℕ)
+    : Type 0 where
+  pub text : List ℕ
+  pub shows : Shows table input text
+  pub answers : Answers (previewChecks old) (text ++ drop (length text) old) old answer lent
+  pub size : after ≡ pick (eqb answer 0) (length text) before

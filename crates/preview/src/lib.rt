@@ -3,6 +3,7 @@ use buffers::copy;
 use decimal::write_decimal;
 use image::PROFILE_SIZE;
 use image::read::read_profile;
+use outcome::BAD_SIZE;
 use profile::Profile;
 use profile::ReadLine;
 use profile::read_line;
@@ -23,6 +24,7 @@ ghost use Rattle.image.specs.Image.{profileSize};
 ghost use Rattle.store.specs.Stored.{capacity, storeSize, stored};
 ghost use Rattle.store.specs.Reached.{Run};
 ghost use Rattle.preview.specs.Preview.{cut, callsOf, callsIn, row, rows, usedIn, longestRow, LineAt, Previews};
+ghost use Rattle.preview.specs.Preview.{PreviewsTo};
 
 // How many bytes are lent for the listing: the header and a row for each slot have room.
 pub const LENT_SIZE: usize = 277;
@@ -167,4 +169,19 @@ pub fn preview(input: &[u8], out: &mut [u8]) -> Previewed
     hold_lines(&mut store, input);
     let at = append_text(b"COUNTRY,CLASS,SERIAL\n", out);
     Previewed::Length(append_rows(&store, out, at))
+}
+
+// The same with a number for an answer. The length is stored only where nothing is refused.
+pub fn preview_into(input: &[u8], out: &mut [u8], length: &mut usize) -> u8
+    ensures { λ r.
+        ⌜ PreviewsTo classes (now (input .entry)) (now (out .entry)) (now (length .entry)) r
+        (now (out .exit)) (now (length .exit)) ⌝ }
+{
+    match preview(input, out) {
+        Previewed::Length(n) => {
+            *length = n;
+            0
+        }
+        Previewed::BadSize => BAD_SIZE,
+    }
 }

@@ -122,6 +122,10 @@ readAnswer (reading.Read p) = done p
 readAnswer reading.BadSize = refused bad-size
 readAnswer reading.BadLine = refused bad-profile
 
+-- what `read_line` promises: its answer is the reading of the line
+abbrev pub Reads : (table : List Class) (line : List ℕ) (r : ReadLine) → Type 0
+Reads table line r = readAnswer r ≡ readLine table line
+
 -- ---- writing
 
 abbrev pub writeChecks : List Class → Profile → List ℕ → List Check

@@ -1,5 +1,6 @@
 -- When a profile is valid: the field rules and the class table, as data (document 01, "Profile line, package, shelf").
 -- Assumes nothing.
+use mathlib.Core.Path.{_≡_}
 use mathlib.Core.Bool.{Bool, true, false, _&&_, _||_}
 use mathlib.Core.List.{List, [], _∷_, _++_}
 use Prim.Native.Nat.{ℕ}
@@ -131,6 +132,10 @@ classIn (c ∷ cs) n = pick (contains (c .volts) n) (done (c .letter)) (classIn 
 abbrev pub classAnswer : ClassFound → Result ℕ
 classAnswer (Letter c) = done c
 classAnswer OutOfRange = refused bad-profile
+
+-- what `class_of` promises: its answer is the class of the volts
+abbrev pub Classifies : (table : List Class) (volts : ℕ) (r : ClassFound) → Type 0
+Classifies table volts r = classAnswer r ≡ classIn table volts
 
 -- a class was found, and is this letter
 abbrev pub isClass : Result ℕ → ℕ → Bool

@@ -7,9 +7,8 @@ use buffers::equal;
 use rules::valid;
 use scan::scan;
 use write::append_line;
-ghost use mathlib.Core.Path.{_≡_};
-ghost use Rattle.profile.specs.Rules.{classes, classIn, classAnswer};
-ghost use Rattle.profile.specs.Line.{readLine, readAnswer, Writes};
+ghost use Rattle.profile.specs.Rules.{classes, Classifies};
+ghost use Rattle.profile.specs.Line.{Reads, Writes};
 
 // The lengths of lines. A line is written into as many bytes as the longest has.
 pub const SHORTEST: usize = 42;
@@ -69,7 +68,7 @@ pub enum WriteLine {
 
 // The class by nominal volts.
 pub fn class_of(volts: u32) -> ClassFound
-    ensures { λ r. ⌜ classAnswer r ≡ classIn classes volts ⌝ }
+    ensures { λ r. ⌜ Classifies classes volts r ⌝ }
 {
     match volts {
         100..=139 => ClassFound::Letter(b'A'),
@@ -82,7 +81,7 @@ pub fn class_of(volts: u32) -> ClassFound
 
 // Takes the numbers from where a line has them, and reads the line only if it is the line of what was found.
 pub fn read_line(line: &[u8]) -> ReadLine
-    ensures { λ r. ⌜ readAnswer r ≡ readLine classes (now (line .entry)) ⌝ }
+    ensures { λ r. ⌜ Reads classes (now (line .entry)) r ⌝ }
 {
     if line.len() < SHORTEST {
         return ReadLine::BadSize;

@@ -1,6 +1,7 @@
 -- SHAKE, FIPS 202, over bytes: the sponge construction (section 4) on Keccak-f[1600], block by block.
 -- A rate is a number of bytes, above 0 and below 200; this is the standard's function for each of them, 168 for
 -- SHAKE128 and 136 for SHAKE256. Assumes nothing.
+use mathlib.Core.Path.{_≡_}
 use mathlib.Core.List.{List, [], _∷_, _++_}
 use Prim.Native.Nat.{ℕ, zero, suc, _+_, _-_, _*_, _/_, _%_}
 use lib.ListN.{length, take, drop, replicate}
@@ -66,3 +67,7 @@ shake rate m d = squeezed rate d (absorbed rate m)
 -- section 6.2: a capacity of 256 bits leaves 168 bytes
 unfoldable pub shake128 : List ℕ → ℕ → List ℕ
 shake128 m d = shake 168 m d
+
+-- what the entry promises: SHAKE128 of the input fills the lent buffer
+abbrev pub Hashes128 : (input old new : List ℕ) → Type 0
+Hashes128 input old new = new ≡ shake128 input (length old)

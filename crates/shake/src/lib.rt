@@ -4,7 +4,7 @@ ghost use mathlib.Core.List.{[], _∷_, _++_};
 ghost use Prim.Native.Nat.{_+_, _-_, _*_, _%_, _<_, _≤_};
 ghost use lib.ListN.{length, take};
 ghost use Rattle.keccak.specs.Keccak.{keccakF};
-ghost use Rattle.shake.specs.Shake.{little, lowBytes, bytesOf, squeezed, shake, shake128 as shake128Of};
+ghost use Rattle.shake.specs.Shake.{little, lowBytes, bytesOf, squeezed, shake, Hashes128};
 ghost use Rattle.shake.specs.InnerFold.{sponge as spongeOf, xorByte, xorBytes, turned, absorbBytes};
 ghost use Rattle.shake.specs.InnerFold.{Rate, Ready, Holds, Absorbs, Squeezes};
 
@@ -224,7 +224,7 @@ pub fn squeeze(sponge: Sponge, out: &mut [u8])
 
 // SHAKE128 of a string of any length, into a buffer of any length.
 pub fn shake128(input: &[u8], out: &mut [u8])
-    ensures { λ r. ⌜ now (out .exit) ≡ shake128Of (now (input .entry)) (length (now (out .entry))) ⌝ }
+    ensures { λ r. ⌜ Hashes128 (now (input .entry)) (now (out .entry)) (now (out .exit)) ⌝ }
 {
     let n = input.len();
     let mut lanes = [0u64; 25];

@@ -1,8 +1,8 @@
--- `gridprofile_preview`: each case of the answer as a number and a length. Assumes nothing.
-use Rattle.gridprofile.proofs.Listed.{listed, unlisted}
+-- `preview_into`: each case of the answer as a number and a length. Assumes nothing.
+use Rattle.preview.proofs.Listed.{listed, unlisted}
 use borrow.Author.Needs.{needs}
-use Rattle.gridprofile.proofs.gridprofile_preview.Statement.{statement}
-use Rattle.gridprofile.proofs.gridprofile_preview.Tie as tie
+use Rattle.preview.proofs.preview_into.Statement.{statement}
+use Rattle.preview.proofs.preview_into.Tie as tie
 
 preview-requires : tie.Need-preview-requires
 preview-requires c κs = search needs
@@ -25,7 +25,7 @@ same-length-2 c = search needs
 returns-2 : tie.Need-returns-2
 returns-2 c = unlisted (c .before .before .before .before .preview .ensures) _ (c .enum-told .given .1)
 
-pub gridprofile-preview-spec : {M : Type 1} → statement M
-gridprofile-preview-spec =
+pub preview-into-spec : {M : Type 1} → statement M
+preview-into-spec =
     tie.close
     (tie.spec preview-requires enum-known-n enum-told same-length returns same-length-2 returns-2)

@@ -9,12 +9,12 @@ use lib.ListN.{length, drop}
 use Rattle.outcome.specs.Answer.{bad-size, pick}
 use Rattle.outcome.specs.Result.{done, refused, answer}
 use Rattle.profile.specs.Rules.{Class}
 use Rattle.preview.specs.declared.Previewed.{Previewed}
 use Rattle.preview.specs.declared.Previewed.the-variants.{Length, BadSize}
-use Rattle.preview.specs.Preview.{Previews, previewAnswer, lentSize}
-use Rattle.gridprofile.specs.Listing.{PreviewsTo}
+use Rattle.preview.specs.Preview.{lentSize, previewAnswer, Previews, PreviewsTo}
 
-module _ {table : List Class} {input old lent : List ℕ} {r : Previewed} (previews : Previews table input old r lent) where
+module _ {table : List Class} {input old lent : List ℕ} {r : Previewed}
+    (previews : Previews table input old r lent) where
   -- the test of the size decides the answer
   decided : (right : Bool) → eqb (length old) lentSize ≡ right
       → previewAnswer r ≡ pick right (done (length (previews .text))) (refused bad-size)
