@@ -205,11 +205,12 @@ uint8_t gridprofile_make_package(const uint8_t *private_seed, size_t private_see
 
 /* Loads a package into a store, on a device that is set to a country (two letters) and a class
  * (the letter's number, 65 to 68). A store is an image of GRIDPROFILE_STORE_IMAGE_BYTES, 16 images
- * of profiles, all zero when it is empty; a slot whose first byte is 0 is free. Which slot a
- * profile goes to is open; no byte of another slot is written. A greater serial replaces the
- * stored profile of its country and class. Refuses, in this order, with 10 where country or class
- * are none (a country of another length too); with 1 where image or key have another length or the
- * package has not GRIDPROFILE_PACKAGE_MIN_BYTES to GRIDPROFILE_PACKAGE_MAX_BYTES; with 3, 2 and 4
+ * of profiles, all zero when it is empty; a slot whose first byte is 0 is free. A greater serial
+ * replaces the stored profile of its country and class in its slot; where none is stored, the
+ * profile goes to a free slot, and which one is open. No byte of another slot is written. Refuses,
+ * in this order, with 10 where country or class are none (a country of another length too); with 1
+ * where image or key have another length or the package has not
+ * GRIDPROFILE_PACKAGE_MIN_BYTES to GRIDPROFILE_PACKAGE_MAX_BYTES; with 3, 2 and 4
  * as gridprofile_verify does; with 5 where the line breaks a rule; with 6 where the profile is for
  * another country or class; with 7 where its serial is not greater than the stored one; with 8
  * where 16 others are stored. */
@@ -220,7 +221,8 @@ uint8_t gridprofile_load(uint8_t *store, size_t store_len, const uint8_t *key, s
 /* Writes the line of the profile that a store has for a country and class, and its length, as
  * gridprofile_write_line does. Refuses with 10 where country or class are none; with 1 where image
  * or buffer have another length; with 9 where nothing is stored for them; with 5 where what is
- * stored breaks a rule, which no image made by this library does. *length is then as it was. */
+ * stored breaks a rule, which is never so in an image of zeros or in what loads made of one.
+ * *length is then as it was. */
 uint8_t gridprofile_lookup(const uint8_t *store, size_t store_len, const uint8_t *country,
                            size_t country_len, uint32_t class_letter, uint8_t *line,
                            size_t line_len, size_t *length);

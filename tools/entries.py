@@ -239,7 +239,7 @@ def has_own_sizes(tree, module):
 
 
 def imports(tree, path):
-    """No import of a file with entries has another name than its definition, but the sizes of a category and inner ones."""
+    """No import of a file with entries has another name than its definition, but a category's sizes and inner ones."""
     module, _ = tree.module(path[:-1])
     for taken in module.imports:
         named = taken.local == (taken.name or taken.path.split(".")[-1])

@@ -54,8 +54,9 @@ module _ (p : Params) where
         ⊎ (Excuses p (responded p salt i β 0 r0) (responded p salt i β 1 r1)
         ⊎ Excuses p (responded p salt i β′ 0 r0′) (responded p salt i β′ 1 r1′))))
 
-  -- A key is made, a package is made of a line into what was lent, what was made is loaded into a store under that key, for a
-  -- device that is set to a country and class, and this pair is looked up: each answer is its entry's on these very arguments.
+  -- A key is made, a package is made of a line into what was lent, what was made is loaded into a store under that
+  -- key, for a device that is set to a country and class, and this pair is looked up: each answer is its entry's on
+  -- these very arguments.
   pub record MakesAndLoads (table : List Class) (private master salt line country : List ℕ) (class : ℕ)
       (store old : List ℕ) (r : Loaded) (store′ out : List ℕ) : Type 0 where
     pub public : List ℕ
@@ -68,9 +69,9 @@ module _ (p : Params) where
     pub found : List ℕ
     pub length-found : ℕ
     pub lookup-answer : LooksUp table store′ country class (replicate longest 0) 0 (r .lookup) found length-found
-    -- where making answers 0, the line means a profile; and where this is of the device's own country and class, newer than the
-    -- one stored, if any, and its pair is stored or there is room: the key was made, loading answers 0, the profile is found, and
-    -- the lookup answers 0 and writes the line
+    -- where making answers 0, the line means a profile; and where this is of the device's own country and class, newer
+    -- than the one stored, if any, and its pair is stored or there is room: the key was made, loading answers 0, the
+    -- profile is found, and the lookup answers 0 and writes the line
     pub loads : r .make ≡ 0 → (profile : Profile) × (readLine table line ≡ done profile)
         × (length country ≡ 2 → deviceOf country class .country ≡ profile .country
         → class ≡ profile .class → length store ≡ storeSize

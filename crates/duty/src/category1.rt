@@ -74,8 +74,8 @@ pub fn verify_four_rounds(
     }
 }
 
-// A package is made of a line and loaded into a store under the key that make_key wrote, and the device's pair is looked
-// up.
+// A package is made of a line and loaded into a store under the key that make_key wrote, and the device's pair is
+// looked up.
 pub fn make_and_load(
     private: &[u8],
     master: &[u8],

@@ -22,8 +22,8 @@ read-done (done a) e = (a, refl)
 read-done (refused (refusal k)) e = absurd (omega arith)
 
 -- what the answer 0 of making from a line says
-pub record Made (p : Params) (table : List Class) (private master salt line lent : List ℕ) (before : ℕ) (sealed : List ℕ)
-    (size : ℕ) : Type 0 where
+pub record Made (p : Params) (table : List Class) (private master salt line lent : List ℕ) (before : ℕ)
+    (sealed : List ℕ) (size : ℕ) : Type 0 where
   pub profile : Profile
   pub read : readLine table line ≡ done profile
   pub signed : firstRefusal (signChecks p private master salt line (signatureSize p)) ≡ 0

@@ -67,7 +67,8 @@ front-as : {cs ds : List Check} {made made′ old : List ℕ} {before answer : �
     → AnswersFront cs made old before answer lent after → AnswersFront ds made′ old before answer lent after
 front-as {made = made} {made′ = made′} {old = old} {before = before} {answer = answer} same bytes a =
     record {
-      answers = record { answer = a .answers .answer ∙ same; content = a .answers .content ∙ content (eqb answer 0) refl };
+      answers =
+          record { answer = a .answers .answer ∙ same; content = a .answers .content ∙ content (eqb answer 0) refl };
       size = a .size ∙ size (eqb answer 0) refl;
     }
   where
@@ -120,8 +121,8 @@ module _ (table : List Class) (p : Params) where
         m .read,
         λ country class old answer new two same letter whole newer room loads.
             let both =
-            made-loads p table sound private master salt (m .profile) lent sealed before size country class old answer new
-            (m .makes) two same letter whole newer room loads in
+            made-loads p table sound private master salt (m .profile) lent sealed before size country class old answer
+            new (m .makes) two same letter whole newer room loads in
             let fine = device-of-valid table (m .profile) (deviceOf country class) (back .1) same letter in
             let kept = taken-size whole (loads .taken (both .0) .2) in (
               both .0,
@@ -155,7 +156,8 @@ module _ (table : List Class) (loads : List Load) (image : List ℕ) (run : Made
     no-broken : (r : Result Profile) → inMap ≡ r
         → _≡_ {A = ℕ} (pick (isDone r) (pick (validIn table r) 0 5) 9) (pick (isDone r) 0 9)
     no-broken (done q) e =
-        let ok = find-valid table (deviceKey device) (stored image) q (held .all-valid) (held .as-map (deviceKey device) ∙ e) in
+        let stands = held .as-map (deviceKey device) ∙ e in
+        let ok = find-valid table (deviceKey device) (stored image) q (held .all-valid) stands in
         ap (λ (b : Bool). pick b 0 5) (holds (valid table q) ok)
     no-broken (refused r) e = refl
 
@@ -190,9 +192,11 @@ module _ (table : List Class) (loads : List Load) (image : List ℕ) (run : Made
       passes e = sym (looks .answers .answer) ∙ e
 
       settled : answer ≡ 0 → deviceOk table device ≡ true
-      settled e = holds (deviceOk table device) (passed (lookupLineChecks table image country class old) (passes e) .1 .0)
+      settled e =
+          holds (deviceOk table device) (passed (lookupLineChecks table image country class old) (passes e) .1 .0)
 
-      answers-map : AnswersFront (mapChecks table loads country class old) (foundLine inMap) old before answer lent after
+      answers-map : AnswersFront (mapChecks table loads country class old) (foundLine inMap) old before answer lent
+          after
       answers-map = front-as same-number (λ e. ap foundLine (found-map (settled e))) looks
 
 pub as-map : (table : List Class) → AsMap table
@@ -228,7 +232,8 @@ came-in : (table : List Class) (loads : List Load) (country : List ℕ) (class :
 unfolding signatureIn lineIn
 came-in table loads country class q line is w =
     let l = w .load in
-    let t = accepted (l .sizes) table (l .key) (l .sealed) (l .country) (l .class) (w .found) 0 (w .left) (w .answered) refl in
+    let t =
+    accepted (l .sizes) table (l .key) (l .sealed) (l .country) (l .class) (w .found) 0 (w .left) (w .answered) refl in
     let same : line ≡ lineIn (l .sizes) (l .sealed) =
     is ∙ writes-read table (lineIn (l .sizes) (l .sealed)) q (w .reads) .0 in
     record {
@@ -252,7 +257,8 @@ looked-up-came-in table loads image country class old before answer lent after r
     let tests = passed (lookupLineChecks table image country class old) (sym (looks .answers .answer) ∙ e) in
     let found = the-done (foundIn table image country class) (tests .1 .1 .1 .1 .0) in
     let q = found .0 in
-    let stands : find (deviceKey device) (stored image) ≡ done q = lookup-find table device (stored image) q (found .1) in
+    let stands : find (deviceKey device) (stored image) ≡ done q =
+    lookup-find table device (stored image) q (found .1) in
     let content = rw (e, found .1) at (looks .answers .content) in
     let long = rw (e, found .1) at (looks .size) in
     let line : take after lent ≡ lineOf q =

@@ -89,7 +89,8 @@ module _ (p : Params) (table : List Class) (key sealed country : List ℕ) (clas
             subst (λ (d : Device). Puts d profile old r new) same done-with in
             let found = profile-opened p table key sealed opens in
             let storing : r ≡ firstRefusal Storing =
-            rw (found .1) (puts .answer ∙ (put-sized device profile old size ∙ put-number device profile (stored old))) in
+            rw (found .1)
+            (puts .answer ∙ (put-sized device profile old size ∙ put-number device profile (stored old))) in
             record {
               answers = goes-on Opening Storing (sym (found .0)) refl storing ∙ sym behind;
               taken = λ z. (profile, sym (opened-passed p table key sealed (found .0)) ∙ found .1, puts .taken z);

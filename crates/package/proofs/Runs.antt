@@ -1,4 +1,5 @@
--- Runs of loads: each load is a call of `put` or none, the image keeps its size, and what is found came in by one of them.
+-- Runs of loads: each load is a call of `put` or none, the image keeps its size, and what is found came in by one of
+-- them.
 -- Assumes nothing.
 use mathlib.Core.Path.{_≡_, refl, _∙_, sym, ap, subst}
 use mathlib.Core.Bool.{Bool, true, false, _&&_}

@@ -72,8 +72,8 @@ abbrev pub mapBy : List Class → List Load → List Profile
 mapBy table loads = model [] (callsBy table loads)
 
 module _ (table : List Class) where
-  -- an image that loads made has the size of one, and what it stores is reached by their calls, so that all that holds of
-  -- reached stores holds of it
+  -- an image that loads made has the size of one, and what it stores is reached by their calls, so that all that holds
+  -- of reached stores holds of it
   abbrev pub ImageReached : Type 0
   ImageReached =
       (loads : List Load) (image : List ℕ) → MadeBy table loads image
@@ -81,8 +81,8 @@ module _ (table : List Class) where
 
   -- ---- looking up in an image that loads made
 
-  -- The store answers as a map: a lookup answers 10 for a setting that is none, 1 for a buffer of another size, 9 where the
-  -- map has nothing under the device's country and class, and else writes the line of what it has.
+  -- The store answers as a map: a lookup answers 10 for a setting that is none, 1 for a buffer of another size, 9
+  -- where the map has nothing under the device's country and class, and else writes the line of what it has.
   abbrev pub mapChecks : List Load → List ℕ → ℕ → List ℕ → List Check
   mapChecks loads country class old =
       bad-device unless eqb (length country) 2
@@ -93,7 +93,8 @@ module _ (table : List Class) where
 
   abbrev pub AsMap : Type 0
   AsMap =
-      (loads : List Load) (image country : List ℕ) (class : ℕ) (old : List ℕ) (before answer : ℕ) (lent : List ℕ) (after : ℕ)
+      (loads : List Load) (image country : List ℕ) (class : ℕ) (old : List ℕ) (before answer : ℕ) (lent : List ℕ)
+      (after : ℕ)
       → MadeBy table loads image → LooksUp table image country class old before answer lent after
       → AnswersFront (mapChecks loads country class old)
       (foundLine (find (deviceKey (deviceOf country class)) (mapBy table loads))) old before answer lent after
@@ -101,11 +102,12 @@ module _ (table : List Class) where
   -- no image that the library made holds a profile that breaks a rule: no lookup in one answers 5
   abbrev pub NoneBroken : Type 0
   NoneBroken =
-      (loads : List Load) (image country : List ℕ) (class : ℕ) (old : List ℕ) (before answer : ℕ) (lent : List ℕ) (after : ℕ)
+      (loads : List Load) (image country : List ℕ) (class : ℕ) (old : List ℕ) (before answer : ℕ) (lent : List ℕ)
+      (after : ℕ)
       → MadeBy table loads image → LooksUp table image country class old before answer lent after → answer ≡ 5 → ⊥
 
-  -- one of the loads was answered 0 on a device of this country and class, and the verifier answers 0 for the signature of
-  -- its package over exactly this line
+  -- one of the loads was answered 0 on a device of this country and class, and the verifier answers 0 for the
+  -- signature of its package over exactly this line
   pub record CameIn (loads : List Load) (country : List ℕ) (class : ℕ) (line : List ℕ) : Type 0 where
     pub earlier : List Load
     pub load : Load
@@ -122,7 +124,8 @@ module _ (table : List Class) where
   -- nothing else gets in: what a lookup writes came in by such a load
   abbrev pub LookedUpCameIn : Type 0
   LookedUpCameIn =
-      (loads : List Load) (image country : List ℕ) (class : ℕ) (old : List ℕ) (before answer : ℕ) (lent : List ℕ) (after : ℕ)
+      (loads : List Load) (image country : List ℕ) (class : ℕ) (old : List ℕ) (before answer : ℕ) (lent : List ℕ)
+      (after : ℕ)
       → MadeBy table loads image → LooksUp table image country class old before answer lent after → answer ≡ 0
       → CameIn loads country class (take after lent)
 
@@ -143,10 +146,10 @@ module _ (table : List Class) where
         → Loads p table key sealed country class old answer new → answer ≡ 0
         → FindsLine new country class (lineIn p sealed)
 
-    -- A package that is made from a line loads: where making answered 0, the line means a profile; and loading what was made
-    -- under the key that the rules give for the private seed, on a device that is set to the profile's country and class,
-    -- answers 0 in every image, made by loads or not, that holds no profile of the pair or one with a smaller serial, and holds
-    -- the pair or has room; and the profile is then found, and a lookup writes the line.
+    -- A package that is made from a line loads: where making answered 0, the line means a profile; and loading what
+    -- was made under the key that the rules give for the private seed, on a device that is set to the profile's
+    -- country and class, answers 0 in every image, made by loads or not, that holds no profile of the pair or one with
+    -- a smaller serial, and holds the pair or has room; and the profile is then found, and a lookup writes the line.
     abbrev pub LineLoads : Type 0
     LineLoads =
         (private master salt line lent sealed : List ℕ) (before size : ℕ)

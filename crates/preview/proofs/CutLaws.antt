@@ -93,8 +93,8 @@ module _ (table : List Class) (input : List ℕ) (at end : ℕ) (found : LineAt 
   left-fewer h qs run rs others =
       left rs
       (rw (found .line h)
-      (run-then table (callsOf (readLine table (take (end - at) (drop at input)))) (callsIn table (cut (drop end input)))
-      ps qs rs run others))
+      (run-then table (callsOf (readLine table (take (end - at) (drop at input))))
+      (callsIn table (cut (drop end input))) ps qs rs run others))
 
   pub left-none : end ≤ at → Run table first (callsIn table (cut input)) ps
   unfolding callsIn

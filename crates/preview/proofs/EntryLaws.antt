@@ -51,7 +51,8 @@ abbrev AllCalls : List Class → List Call → Type 0
 AllCalls table [] = Unit {0}
 AllCalls table (c ∷ cs) = ValidCall table c × AllCalls table cs
 
-calls-then : (table : List Class) (cs ds : List Call) → AllCalls table cs → AllCalls table ds → AllCalls table (cs ++ ds)
+calls-then : (table : List Class) (cs ds : List Call) → AllCalls table cs → AllCalls table ds
+    → AllCalls table (cs ++ ds)
 calls-then table [] ds all others = others
 calls-then table (c ∷ cs) ds all others = (all .0, calls-then table cs ds (all .1) others)
 
@@ -70,7 +71,8 @@ lines-valid table (line ∷ lines) =
     (lines-valid table lines)
 
 -- it is reached by the calls of the lines
-model-run : (table : List Class) (cs : List Call) (ps : List Profile) → AllCalls table cs → Run table ps cs (model ps cs)
+model-run : (table : List Class) (cs : List Call) (ps : List Profile) → AllCalls table cs
+    → Run table ps cs (model ps cs)
 unfolding model
 model-run table [] ps all = refl
 model-run table (c ∷ cs) ps all =

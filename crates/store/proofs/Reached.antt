@@ -142,8 +142,8 @@ insert-valid table p (q ∷ qs) ok all = go (sameKey (keyOf q) (keyOf p)) (inser
     go true rest = (ok, all .1)
     go false rest = (all .0, rest)
 
-pub find-valid : (table : List Class) (k : Key) (ps : List Profile) (p : Profile) → AllValid table ps → find k ps ≡ done p
-    → T (valid table p)
+pub find-valid : (table : List Class) (k : Key) (ps : List Profile) (p : Profile) → AllValid table ps
+    → find k ps ≡ done p → T (valid table p)
 unfolding find
 find-valid table k [] p all e = let z : _≡_ {A = ℕ} 0 1 = cc in absurd (omega arith)
 find-valid table k (q ∷ qs) p all e = go (sameKey (keyOf q) k) e (find-valid table k qs p (all .1))
@@ -234,8 +234,8 @@ step-entered {c} {ps} {qs} step k p f =
         inr (e, sym its ∙ same-eq (keyOf (c .profile)) k s, it)
     go e false s g = inl g
 
-run-entered : (table : List Class) (cs : List Call) (ps rs : List Profile) → Run table ps cs rs → (k : Key) (p : Profile)
-    → find k rs ≡ done p → (find k ps ≡ done p) ⊎ Entered table ps cs rs k p
+run-entered : (table : List Class) (cs : List Call) (ps rs : List Profile) → Run table ps cs rs → (k : Key)
+    (p : Profile) → find k rs ≡ done p → (find k ps ≡ done p) ⊎ Entered table ps cs rs k p
 run-entered table [] ps rs run k p f = inl (subst (λ (l : List Profile). find k l ≡ done p) run f)
 run-entered table (c ∷ cs) ps rs run k p f = go (run-entered table cs (run .0) rs (run .3) k p f)
   where

@@ -114,22 +114,22 @@ putImageChecks d p old = bad-size unless eqb (length old) storeSize ∷ putCheck
 abbrev pub Perm : List Profile → List Profile → Type 0
 Perm = List·Permᴰ
 
--- ps became qs by storing p. Which slot p takes, and so the order of qs, is the program's choice. Every choice has in
+-- ps became qs by storing p. Where in qs p stands follows from the slot that it takes (`Chosen`). Every choice has in
 -- common that p is found under its key, and under any other key what was found before; and that qs is, up to order, ps
 -- with p in place of the one of its key, or with p besides.
 pub record Stores (p : Profile) (ps qs : List Profile) : Type 0 where
   pub finds : (k : Key) → find k qs ≡ pick (sameKey (keyOf p) k) (done p) (find k ps)
   pub listed : Perm qs (insert p ps)
 
--- The slot that a profile of this key takes. Where the key is stored it is the slot that a lookup finds, the first of the key;
--- else it is one that is free, and which of these is the program's choice.
+-- The slot that a profile of this key takes. Where the key is stored it is the slot that a lookup finds, the first of
+-- the key; else it is one that is free, and which of these is the program's choice.
 pub record Chosen (k : Key) (image : List ℕ) (i : ℕ) : Type 0 where
   pub within : i < capacity
   pub held : isStored k (stored image) ≡ true → i ≡ firstSlot (holding k) (slotsOf capacity image)
   pub free : isStored k (stored image) ≡ false → isFree (slotOf (slotBytes i image)) ≡ true
 
--- One slot changed: it holds p now. Every other byte of the image is as it was, and every other slot of the store, used or
--- not (`SlotWritten`).
+-- One slot changed: it holds p now. Every other byte of the image is as it was, and every other slot of the store,
+-- used or not (`SlotWritten`).
 pub record Taken (p : Profile) (old new : List ℕ) : Type 0 where
   pub slot : ℕ
   pub chosen : Chosen (keyOf p) old slot

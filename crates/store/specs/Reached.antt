@@ -1,6 +1,6 @@
--- What holds of the stores that calls reach from the empty one (document 01, "Profile line, package, shelf"). Each call
--- carries a valid profile and a sound setting of the device, and meets the contract of `put`; nothing else is known of the
--- program. The proofs stand in proofs/Reached.antt.
+-- What holds of the stores that calls reach from the empty one (document 01, "Profile line, package, shelf"). Each
+-- call carries a valid profile and a sound setting of the device, and meets the contract of `put`; nothing else is
+-- known of the program. The proofs stand in proofs/Reached.antt.
 -- Assumes nothing.
 use mathlib.Core.Path.{_≡_}
 use mathlib.Core.Bool.{true}
@@ -49,7 +49,8 @@ Reached table calls ps = Run table [] calls ps
 abbrev pub ZerosEmpty : Type 0
 ZerosEmpty = stored (replicate storeSize 0) ≡ []
 
--- an image that stores nothing is reached by no call, and a valid call of `put` on a reached store reaches one by a call more
+-- an image that stores nothing is reached by no call, and a valid call of `put` on a reached store reaches one by a
+-- call more
 abbrev pub EmptyReached : Type 0
 EmptyReached = (table : List Class) (image : List ℕ) → stored image ≡ [] → Reached table [] (stored image)
 
@@ -64,7 +65,8 @@ abbrev pub PutChanges : Type 0
 PutChanges =
     (d : Device) (p : Profile) (old : List ℕ) (r : ℕ) (new : List ℕ) → Puts d p old r new → r ≡ 0 → new ≡ old → ⊥
 
--- the slot that an accepted call chose holds the image of its profile, and the bytes of every other slot are as they were
+-- the slot that an accepted call chose holds the image of its profile, and the bytes of every other slot are as they
+-- were
 abbrev pub OneSlot : Type 0
 OneSlot =
     (p : Profile) (old new : List ℕ) → length old ≡ storeSize → (t : Taken p old new)
@@ -95,9 +97,9 @@ abbrev pub AllValid : List Class → List Profile → Type 0
 AllValid table [] = Unit {0}
 AllValid table (p ∷ ps) = T (valid table p) × AllValid table ps
 
--- What holds of every store that is reached: everything stored is valid; no key twice; at most 16 profiles; it is the map
--- that the accepted calls make, and up to order its list; and what a lookup gives, under whatever classes, is a profile of
--- the device's country and class, which entered by a call that was answered 0 with the device set to these.
+-- What holds of every store that is reached: everything stored is valid; no key twice; at most 16 profiles; it is the
+-- map that the accepted calls make, and up to order its list; and what a lookup gives, under whatever classes, is a
+-- profile of the device's country and class, which entered by a call that was answered 0 with the device set to these.
 pub record Holds (table : List Class) (calls : List Call) (ps : List Profile) : Type 0 where
   pub all-valid : AllValid table ps
   pub distinct : Distinct ps

@@ -98,7 +98,8 @@ returns-4 c =
     let held = there .if3 .taken in
     let serial = ap (λ (q : Profile). q .serial) (read .profile-at .ensures) in
     let newer = compared .if4 .left in
-    answers-replaced (at-size found .if1 .left) (its found) (first found) (omega arith) (omega arith) (wrote .write-slot .ensures)
+    answers-replaced (at-size found .if1 .left) (its found) (first found) (omega arith) (omega arith)
+    (wrote .write-slot .ensures)
 
 find-free-requires : tie.Need-find-free-requires
 find-free-requires c κs = search needs
@@ -113,7 +114,8 @@ returns-5 c =
     let found = nowhere .before in
     let none = nowhere .if3 .left in
     let store-full = c .if5 .taken in
-    answers-full (at-size found .if1 .left) (its found) (first found) (omega arith) _ (searched .find-free .ensures) (omega arith)
+    answers-full (at-size found .if1 .left) (its found) (first found) (omega arith) _
+    (searched .find-free .ensures) (omega arith)
 
 write-slot-requires-2 : tie.Need-write-slot-requires-2
 write-slot-requires-2 c κs = search needs
@@ -130,7 +132,8 @@ returns-6 c =
     let found = nowhere .before in
     let none = nowhere .if3 .left in
     let room = there .if5 .left in
-    answers-added (at-size found .if1 .left) (its found) (first found) (omega arith) _ (searched .find-free .ensures) (omega arith)
+    answers-added (at-size found .if1 .left) (its found) (first found) (omega arith) _
+    (searched .find-free .ensures) (omega arith)
     (wrote .write-slot2 .ensures)
 
 pub put-spec : {M : Type 1} → statement M
