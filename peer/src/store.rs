@@ -132,11 +132,20 @@ pub fn load(image: &mut [u8], key: &[u8], package: &[u8], device: &Device, verif
     crate::refusal::answer(loaded(), image)
 }
 
-/// Whether just one slot of an image was written, and holds the profile; which slot it is, is open.
+/// Whether just one slot of an image was written, and holds the profile: the first of its pair, or where none is of it
+/// one that was free; which free one is open.
 pub fn wrote_one_slot(old: &[u8], new: &[u8], profile: &Profile) -> bool {
-    let slots = old.chunks_exact(IMAGE).zip(new.chunks_exact(IMAGE));
-    let written: Vec<_> = slots.filter(|(before, after)| before != after).collect();
-    old.len() == new.len() && matches!(written[..], [(_, slot)] if slot == image(profile))
+    let before: Vec<_> = old.chunks_exact(IMAGE).collect();
+    let after: Vec<_> = new.chunks_exact(IMAGE).collect();
+    let is_free = |slot: &[u8]| slot[0] == 0;
+    let has_pair = |slot: &[u8]| !is_free(slot) && slot[1..3] == profile.country && slot[3] == profile.class;
+    let written: Vec<_> = (0..before.len().min(after.len())).filter(|&i| before[i] != after[i]).collect();
+    let [i] = written[..] else { return false };
+    let chosen = match before.iter().position(|slot| has_pair(slot)) {
+        Some(held) => i == held,
+        None => is_free(before[i]),
+    };
+    chosen && old.len() == new.len() && after[i] == image(profile)
 }
 
 /// Writes the line stored for a device: 10, 1, 9; 5 where an image holds what no load stored.

@@ -53,6 +53,28 @@ fn any_byte_but_0_marks_a_slot_and_the_first_of_a_pair_counts() {
 }
 
 #[test]
+fn one_slot_is_the_pairs_or_a_free_one() {
+    let (a, b, newer) = (profile(b"XA", 3), profile(b"XB", 9), profile(b"XB", 10));
+    let old = Store(vec![a, b, b]).image();
+    let with = |slots: &[usize], p: &Profile| {
+        let mut new = old.clone();
+        for slot in slots {
+            new[slot * IMAGE..(slot + 1) * IMAGE].copy_from_slice(&image(p));
+        }
+        wrote_one_slot(&old, &new, p)
+    };
+    assert!(with(&[1], &newer));
+    for slots in [&[][..], &[0], &[2], &[3], &[1, 2], &[1, 3]] {
+        assert!(!with(slots, &newer), "{slots:?}");
+    }
+    let other = profile(b"XC", 1);
+    assert!(with(&[3], &other) && with(&[15], &other));
+    for slots in [&[][..], &[0], &[1], &[2], &[3, 4]] {
+        assert!(!with(slots, &other), "{slots:?}");
+    }
+}
+
+#[test]
 fn another_device_is_refused() {
     let (mut store, p) = (Store::default(), profile(b"XA", 1));
     for (country, class) in [(&b"XB"[..], p.class), (b"XA", p.class ^ 3), (b"XAX", p.class)] {
