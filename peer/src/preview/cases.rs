@@ -44,8 +44,10 @@ fn exactly(rng: &mut Rng, len: usize) -> Vec<u8> {
 pub fn named(rng: &mut Rng) -> Vec<(&'static str, Vec<u8>)> {
     let good = lines(rng, 3, 2);
     let text = |text: &str| text.as_bytes().to_vec();
+    // The last line has a greater serial than all before it, so that its last byte changes the listing.
     let mut last_line_ends = exactly(rng, LONGEST_INPUT);
-    last_line_ends.splice(LONGEST_INPUT - EXAMPLE.len().., text(EXAMPLE));
+    let last = format!("\n{}\n", EXAMPLE.lines().next().expect("two"));
+    last_line_ends.splice(LONGEST_INPUT - last.len().., text(&last));
     vec![
         ("the example", text(EXAMPLE)),
         ("nothing", Vec::new()),

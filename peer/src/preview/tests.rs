@@ -37,6 +37,14 @@ fn an_input_may_have_65536_bytes() {
 }
 
 #[test]
+fn the_last_of_65536_bytes_counts() {
+    let inputs = named(&mut Rng::new(53));
+    let (_, input) = inputs.iter().find(|(name, _)| name.ends_with("the last line good")).expect("a name");
+    assert!(input.len() == 65_536 && listing(input).contains("XA,B,12\n"));
+    assert!(!listing(&input[..65_535]).contains("XA,B,12\n"));
+}
+
+#[test]
 fn a_listing_fits() {
     let mut rng = Rng::new(52);
     for _ in 0..300 {
