@@ -1,7 +1,7 @@
 -- Making a package and loading it, put together, at all sound sizes: what was made lies within what was lent; and where
 -- making answers 0, so do making the key, loading and looking up, and the lookup writes the line.
 -- Assumes nothing.
-use mathlib.Core.Path.{_≡_, refl, _∙_, sym, ap}
+use mathlib.Core.Path.{_≡_, _∙_, sym, ap}
 use mathlib.Core.List.{List}
 use Prim.Native.Nat.{ℕ, zero, suc, _+_, _≤_}
 use native.Mathlib.Omega.{arith}

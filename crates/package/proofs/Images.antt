@@ -1,7 +1,7 @@
 -- The theorems of specs/Images.antt. Assumes nothing.
 use mathlib.Core.Path.{_≡_, refl, _∙_, sym, ap, subst}
 use mathlib.Core.Bool.{Bool, true, false}
-use mathlib.Core.List.{List, [], _∷_, _++_}
+use mathlib.Core.List.{List, [], _∷_}
 use mathlib.Core.Logic.{_⊎_, inl, inr}
 use Prim.Native.Nat.{ℕ}
 use native.Mathlib.Omega.{arith}
@@ -14,7 +14,6 @@ use Rattle.outcome.specs.Answer.{
   bad-profile,
   not-stored,
   bad-device,
-  Check,
   _unless_,
   firstRefusal,
   pick,
@@ -26,7 +25,7 @@ use Rattle.parameters.specs.declared.Params.{Params}
 use Rattle.parameters.specs.Sound.{Sound}
 use Rattle.profile.specs.declared.Profile.{Profile}
 use Rattle.profile.specs.Rules.{Class, valid}
-use Rattle.profile.specs.Line.{longest, lineOf, readLine}
+use Rattle.profile.specs.Line.{longest, lineOf}
 use Rattle.profile.proofs.RuleLaws.{holds}
 use Rattle.profile.proofs.Theorems.{writes-read}
 use Rattle.scheme.specs.Sign.{signatureSize}
@@ -34,7 +33,7 @@ use Rattle.store.specs.declared.Key.{Key}
 use Rattle.store.specs.declared.Device.{Device}
 use Rattle.store.specs.Keys.{deviceKey, deviceOf, deviceOk}
 use Rattle.store.specs.Stored.{storeSize, stored, find, isDone, isStored}
-use Rattle.store.specs.Calls.{lookupIn, foundIn, foundLine, validIn, lookupLineChecks, LooksUp}
+use Rattle.store.specs.Calls.{foundIn, foundLine, validIn, lookupLineChecks, LooksUp}
 use Rattle.store.specs.Reached.{Holds}
 use Rattle.store.proofs.KeyLaws.{device-of-valid}
 use Rattle.store.proofs.LookupLaws.{lookup-sound, lookup-find, lookup-stored}
@@ -42,7 +41,6 @@ use Rattle.store.proofs.OneSlot.{taken-size}
 use Rattle.store.proofs.PutLaws.{put-passed}
 use Rattle.store.proofs.Reached.{reached-hold, find-valid, zeros-empty}
 use Rattle.package.specs.Package.{signatureIn, lineIn}
-use Rattle.package.specs.Entries.{Loads}
 use Rattle.package.specs.Images.{
   Load,
   MadeBy,
@@ -57,29 +55,10 @@ use Rattle.package.specs.Images.{
   LoadedFound,
   LineLoads,
 }
+use Rattle.package.proofs.Stages.{front-as}
 use Rattle.package.proofs.Theorems.{accepted, made-loads}
 use Rattle.package.proofs.FromLine.{made}
 use Rattle.package.proofs.Runs.{image-reached, Stored, run-found}
-
--- an answer at the front of a buffer, by other checks of the same outcome
-front-as : {cs ds : List Check} {made made′ old : List ℕ} {before answer : ℕ} {lent : List ℕ} {after : ℕ}
-    → firstRefusal cs ≡ firstRefusal ds → (answer ≡ 0 → made ≡ made′)
-    → AnswersFront cs made old before answer lent after → AnswersFront ds made′ old before answer lent after
-front-as {made = made} {made′ = made′} {old = old} {before = before} {answer = answer} same bytes a =
-    record {
-      answers =
-          record { answer = a .answers .answer ∙ same; content = a .answers .content ∙ content (eqb answer 0) refl };
-      size = a .size ∙ size (eqb answer 0) refl;
-    }
-  where
-    content : (b : Bool) → eqb answer 0 ≡ b
-        → pick b (made ++ drop (length made) old) old ≡ pick b (made′ ++ drop (length made′) old) old
-    content true e = ap (λ (l : List ℕ). l ++ drop (length l) old) (bytes (eqb-true answer 0 e))
-    content false e = refl
-
-    size : (b : Bool) → eqb answer 0 ≡ b → pick b (length made) before ≡ pick b (length made′) before
-    size true e = ap length (bytes (eqb-true answer 0 e))
-    size false e = refl
 
 -- ---- a lookup that finds a valid profile
 

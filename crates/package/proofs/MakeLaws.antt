@@ -24,10 +24,10 @@ use Rattle.profile.proofs.Theorems.{line-lengths-hold, writes-read}
 use Rattle.scheme.specs.Sign.{signatureSize, signChecks, signature}
 use Rattle.scheme.proofs.Accepted.{length-signature}
 use Rattle.keygen.proofs.Parts.{put-next}
-use Rattle.image.proofs.EntryLaws.{number-answer, answers-as}
+use Rattle.image.proofs.EntryLaws.{number-answer}
 use Rattle.package.specs.Package.{packageMax, packageOf, makeSizes, makeChecks, makeFromLineChecks}
 use Rattle.package.specs.Entries.{Room, Seals, MakesPackage, MakesFromLine}
-use Rattle.package.proofs.Stages.{by-first, by-second, by-third}
+use Rattle.package.proofs.Stages.{by-first, by-second, by-third, front-as}
 
 -- ---- answers
 
@@ -39,11 +39,6 @@ kept line old before k some e =
       answers = record { answer = e; content = rw (ne-eqb k 0 some) refl };
       size = rw (ne-eqb k 0 some) refl;
     }
-
--- the same answer under other checks that refuse alike
-front-as : {cs ds : List Check} {line old lent : List ℕ} {before k after : ℕ} → firstRefusal cs ≡ firstRefusal ds
-    → AnswersFront cs line old before k lent after → AnswersFront ds line old before k lent after
-front-as {cs} {ds} e a = record { answers = answers-as {cs = cs} {ds = ds} e (a .answers); size = a .size }
 
 -- ---- sealing a line
 
@@ -199,6 +194,7 @@ module _ (p : Params) (table : List Class) (private master salt : List ℕ) (pro
         front-as {cs = signing} {ds = sizes ++ rules ++ signing}
         (by-third sizes rules signing (sym tested ∙ none)
         (holds bad-profile (valid table profile) [] (obeyed table profile new n written)))
+        (λ _. refl)
         (subst (λ (l : List ℕ). Seals p private master salt l old before k out after)
         (written-line table profile new n written) sealed)
 
@@ -251,4 +247,5 @@ module _ (p : Params) (table : List Class) (private master salt line old : List 
       make-line-sealed sealed =
           front-as {cs = line-signing} {ds = line-sizes ++ reading ++ line-signing}
           (by-third line-sizes reading line-signing (sym tested ∙ none) (rw (← read) refl))
+          (λ _. refl)
           sealed

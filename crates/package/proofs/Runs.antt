@@ -21,7 +21,7 @@ use Rattle.store.specs.declared.Key.{Key}
 use Rattle.store.specs.Keys.{keyOf, deviceKey, sameKey, deviceOk}
 use Rattle.store.specs.Stored.{storeSize, stored, find}
 use Rattle.store.specs.Calls.{putNumber, Stores}
-use Rattle.store.specs.Reached.{Call, answerTo, Step, ValidCall, Run, Reached}
+use Rattle.store.specs.Reached.{ValidCall, Run}
 use Rattle.store.proofs.KeyLaws.{both-true, not-both, same-eq}
 use Rattle.store.proofs.OneSlot.{taken-size}
 use Rattle.store.proofs.PutLaws.{put-passed}
@@ -31,7 +31,6 @@ use Rattle.package.specs.Images.{
   Load,
   LoadAnswers,
   LoadRun,
-  MadeBy,
   settingOf,
   callsFor,
   callsOf,

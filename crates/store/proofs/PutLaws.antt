@@ -17,7 +17,6 @@ use Rattle.store.specs.Keys.{keyOf, deviceKey, sameKey}
 use Rattle.store.specs.Stored.{
   capacity,
   storeSize,
-  slotOf,
   slotsOf,
   slotBytes,
   SlotWritten,

@@ -24,7 +24,7 @@ ghost use lib.ListN.{length};
 ghost use Rattle.profile.specs.Rules.{classes};
 ghost use Rattle.image.specs.Image.{profileSize};
 ghost use Rattle.store.specs.Keys.{keyOf, deviceOf, deviceKey, sameKey, hasClass, deviceOk};
-ghost use Rattle.store.specs.Stored.{storeSize, slotOf};
+ghost use Rattle.store.specs.Stored.{slotOf};
 ghost use Rattle.store.specs.Calls.{LooksUp, Puts};
 
 // How many profiles a store holds.
