@@ -4,7 +4,10 @@
  * a pointer must not be null unless its length is 0: the library's proofs assume both. Every
  * function but gridprofile_shake128 answers 0, or the number of the first refusal that applies.
  * After a refusal every lent byte is as it was. No function keeps a pointer, allocates memory or
- * has any state of its own. */
+ * has any state of its own.
+ *
+ * `Stack: N bytes.` is what a call needs below its caller's own frame: measured on x86-64 and
+ * rounded up to a multiple of 64, not proved. `make bench` measures it. */
 #ifndef GRIDPROFILE_H
 #define GRIDPROFILE_H
 
@@ -14,6 +17,12 @@
 #ifdef __cplusplus
 extern "C" {
 #endif
+
+/* The version of this interface, as CHANGELOG.md names it. */
+#define GRIDPROFILE_VERSION "0.1.0"
+#define GRIDPROFILE_VERSION_MAJOR 0
+#define GRIDPROFILE_VERSION_MINOR 1
+#define GRIDPROFILE_VERSION_PATCH 0
 
 /* Answers. */
 #define GRIDPROFILE_DONE 0
@@ -50,13 +59,42 @@ extern "C" {
 #define GRIDPROFILE_LINE_MAX_BYTES 72
 #define GRIDPROFILE_PROFILE_IMAGE_BYTES 64
 
-/* A listing: its header and 16 rows of at most 16 bytes. */
+/* Where the fields of a profile's image begin. Used, country and class are bytes; a number has
+ * four, low byte first; the last four fields are trip points. */
+#define GRIDPROFILE_USED_OFFSET 0
+#define GRIDPROFILE_COUNTRY_OFFSET 1
+#define GRIDPROFILE_CLASS_OFFSET 3
+#define GRIDPROFILE_SERIAL_OFFSET 4
+#define GRIDPROFILE_VOLTS_OFFSET 8
+#define GRIDPROFILE_HERTZ_OFFSET 12
+#define GRIDPROFILE_OVER_VOLTAGE_OFFSET 16
+#define GRIDPROFILE_UNDER_VOLTAGE_OFFSET 28
+#define GRIDPROFILE_OVER_FREQUENCY_OFFSET 40
+#define GRIDPROFILE_UNDER_FREQUENCY_OFFSET 52
+
+/* A trip point: its bytes, and where its three numbers begin in it. */
+#define GRIDPROFILE_TRIP_BYTES 12
+#define GRIDPROFILE_TRIP_KIND_OFFSET 0
+#define GRIDPROFILE_TRIP_LIMIT_OFFSET 4  /* without sign */
+#define GRIDPROFILE_TRIP_DELAY_OFFSET 8  /* milliseconds */
+
+/* What a trip point's limit is measured in. */
+#define GRIDPROFILE_KIND_SHARE 0  /* thousandths of the nominal voltage */
+#define GRIDPROFILE_KIND_ABOVE 1  /* millihertz above the nominal frequency */
+#define GRIDPROFILE_KIND_BELOW 2  /* millihertz below it */
+
+/* A preview: its longest input, and its listing, a header and GRIDPROFILE_STORE_SLOTS rows of at
+ * most 16 bytes. */
+#define GRIDPROFILE_PREVIEW_MAX_BYTES 65536
 #define GRIDPROFILE_LISTING_BYTES 277
 
 /* Packages and the image of a store, in bytes. */
 #define GRIDPROFILE_PACKAGE_MIN_BYTES 19194
 #define GRIDPROFILE_PACKAGE_MAX_BYTES 19224
 #define GRIDPROFILE_STORE_IMAGE_BYTES 1024
+
+/* Slots of a store, each the image of a profile. */
+#define GRIDPROFILE_STORE_SLOTS 16
 
 /* Blocks that numbers are drawn from, in bytes. */
 #define GRIDPROFILE_MATRIX_BLOCK_BYTES 3500
@@ -70,64 +108,75 @@ extern "C" {
 #define GRIDPROFILE_PACKED_EXPONENTS_BYTES(count) ((count) / 8 * 3 + ((count) % 8 * 3 + 7) / 8)
 
 /* SHAKE128 (FIPS 202) of the input, as many bytes as `out` has. Input and output may have any
- * length, 0 too. It never refuses. */
+ * length, 0 too. It never refuses.
+ * Stack: 576 bytes. */
 void gridprofile_shake128(const uint8_t *input, size_t input_len, uint8_t *out, size_t out_len);
 
 /* Packs any number of values, a byte each, 7 bits for each from the lowest bit of the first byte
  * upward. Refuses with 1 where packed_len is not GRIDPROFILE_PACKED_VALUES_BYTES(values_len), then
- * with 3 where a value is over 126. */
+ * with 3 where a value is over 126.
+ * Stack: 128 bytes. */
 uint8_t gridprofile_pack_values(const uint8_t *values, size_t values_len, uint8_t *packed,
                                 size_t packed_len);
 
 /* Unpacks values_len values. Refuses with 1 where packed_len is not
  * GRIDPROFILE_PACKED_VALUES_BYTES(values_len), then with 3 where a field is 127 or a spare bit of
- * the last byte is 1. */
+ * the last byte is 1.
+ * Stack: 448 bytes. */
 uint8_t gridprofile_unpack_values(const uint8_t *packed, size_t packed_len, uint8_t *values,
                                   size_t values_len);
 
 /* Packs any number of exponents, a byte each, 3 bits for each. Refuses with 1 where packed_len is
- * not GRIDPROFILE_PACKED_EXPONENTS_BYTES(exponents_len), then with 3 where an exponent is over 6. */
+ * not GRIDPROFILE_PACKED_EXPONENTS_BYTES(exponents_len), then with 3 where an exponent is over 6.
+ * Stack: 64 bytes. */
 uint8_t gridprofile_pack_exponents(const uint8_t *exponents, size_t exponents_len, uint8_t *packed,
                                    size_t packed_len);
 
 /* Unpacks exponents_len exponents. Refuses with 1 where packed_len is not
  * GRIDPROFILE_PACKED_EXPONENTS_BYTES(exponents_len), then with 3 where a field is 7 or a spare bit
- * of the last byte is 1. */
+ * of the last byte is 1.
+ * Stack: 448 bytes. */
 uint8_t gridprofile_unpack_exponents(const uint8_t *packed, size_t packed_len, uint8_t *exponents,
                                      size_t exponents_len);
 
 /* Draws the matrix V, GRIDPROFILE_MATRIX_VALUES values row by row, from a block of
  * GRIDPROFILE_MATRIX_BLOCK_BYTES: its 7-bit fields in order, 127 dropped. Refuses with 1 where
- * either length is another, then with 2 where the block yields too few. */
+ * either length is another, then with 2 where the block yields too few.
+ * Stack: 4096 bytes. */
 uint8_t gridprofile_sample_matrix(const uint8_t *block, size_t block_len, uint8_t *out,
                                   size_t out_len);
 
 /* Draws GRIDPROFILE_PLACES exponents from a block of GRIDPROFILE_EXPONENTS_BLOCK_BYTES: its 3-bit
- * fields in order, 7 dropped. Refuses as gridprofile_sample_matrix does. */
+ * fields in order, 7 dropped. Refuses as gridprofile_sample_matrix does.
+ * Stack: 320 bytes. */
 uint8_t gridprofile_sample_exponents(const uint8_t *block, size_t block_len, uint8_t *out,
                                      size_t out_len);
 
 /* Draws GRIDPROFILE_PLACES mask values from a block of GRIDPROFILE_MASK_VALUES_BLOCK_BYTES: its
- * 7-bit fields in order, 127 dropped. Refuses as gridprofile_sample_matrix does. */
+ * 7-bit fields in order, 127 dropped. Refuses as gridprofile_sample_matrix does.
+ * Stack: 320 bytes. */
 uint8_t gridprofile_sample_mask_values(const uint8_t *block, size_t block_len, uint8_t *out,
                                        size_t out_len);
 
 /* Draws GRIDPROFILE_ROUNDS first challenges, 1 to 126, from a block of
  * GRIDPROFILE_FIRST_CHALLENGES_BLOCK_BYTES: its 7-bit fields in order, 126 and 127 dropped, each
- * kept one plus 1. Refuses as gridprofile_sample_matrix does. */
+ * kept one plus 1. Refuses as gridprofile_sample_matrix does.
+ * Stack: 384 bytes. */
 uint8_t gridprofile_sample_first_challenges(const uint8_t *block, size_t block_len, uint8_t *out,
                                             size_t out_len);
 
 /* Draws the second challenge, 0 or 1 for each of GRIDPROFILE_ROUNDS rounds and GRIDPROFILE_ONES
  * ones among them, by a shuffle with the 16-bit fields of a block of
  * GRIDPROFILE_SECOND_CHALLENGE_BLOCK_BYTES. Byte j belongs to round j + 1. Refuses as
- * gridprofile_sample_matrix does. */
+ * gridprofile_sample_matrix does.
+ * Stack: 192 bytes. */
 uint8_t gridprofile_sample_second_challenge(const uint8_t *block, size_t block_len, uint8_t *out,
                                             size_t out_len);
 
 /* Makes the public key of a private seed of GRIDPROFILE_PRIVATE_SEED_BYTES into
  * GRIDPROFILE_KEY_BYTES: the public seed, then the packed syndrome. Refuses with 1 where either
- * length is another, then with 2 where one of the key's draws is short. */
+ * length is another, then with 2 where one of the key's draws is short.
+ * Stack: 9984 bytes. */
 uint8_t gridprofile_make_key(const uint8_t *private_seed, size_t private_seed_len, uint8_t *key,
                              size_t key_len);
 
@@ -135,7 +184,8 @@ uint8_t gridprofile_make_key(const uint8_t *private_seed, size_t private_seed_le
  * GRIDPROFILE_SIGNATURE_BYTES. The master seed (GRIDPROFILE_MASTER_SEED_BYTES) and the salt
  * (GRIDPROFILE_SALT_BYTES) must be drawn afresh for each signature, and the master seed kept
  * secret; the library draws neither. Refuses with 1 where a length is another, then with 2 where a
- * draw is short: of the key, of the rounds, of the first or of the second challenges. */
+ * draw is short: of the key, of the rounds, of the first or of the second challenges.
+ * Stack: 69312 bytes. */
 uint8_t gridprofile_sign(const uint8_t *private_seed, size_t private_seed_len,
                          const uint8_t *master_seed, size_t master_seed_len, const uint8_t *salt,
                          size_t salt_len, const uint8_t *message, size_t message_len,
@@ -145,7 +195,8 @@ uint8_t gridprofile_sign(const uint8_t *private_seed, size_t private_seed_len,
  * key or signature have another length than theirs or the message is too long; with 3 where the key
  * has a bad field; with 2 where a draw of the matrix, of the first or of the second challenges is
  * short; then, from the first round on, with 3 where a round has a bad field and with 2 where a draw
- * from its seed is short; last with 4 where one of the two digests over all rounds differs. */
+ * from its seed is short; last with 4 where one of the two digests over all rounds differs.
+ * Stack: 16320 bytes. */
 uint8_t gridprofile_verify(const uint8_t *key, size_t key_len, const uint8_t *message,
                            size_t message_len, const uint8_t *signature, size_t signature_len);
 
@@ -157,7 +208,8 @@ uint8_t gridprofile_verify(const uint8_t *key, size_t key_len, const uint8_t *me
  * reply's is not looked at); with 3 where the key has a bad field, round is not 1 to
  * GRIDPROFILE_ROUNDS, first_challenge not 1 to 126 or second_challenge not 0 or 1; with 2 where the
  * draw of the matrix is short; with 3 where the reply has a bad field or with 2 where a draw from
- * its seed is short; last with 4 where commitment or response differs. */
+ * its seed is short; last with 4 where commitment or response differs.
+ * Stack: 10624 bytes. */
 uint8_t gridprofile_verify_round(const uint8_t *key, size_t key_len, const uint8_t *salt,
                                  size_t salt_len, uint32_t round, const uint8_t *commitment_0,
                                  size_t commitment_0_len, const uint8_t *commitment_1,
@@ -168,17 +220,19 @@ uint8_t gridprofile_verify_round(const uint8_t *key, size_t key_len, const uint8
 /* Reads a profile line into the image of its profile, GRIDPROFILE_PROFILE_IMAGE_BYTES: a byte 1, the
  * country's two letters, the class letter, then numbers of four bytes each, low byte first: serial,
  * nominal volts, hertz, and for each of over-voltage, under-voltage, over-frequency and
- * under-frequency its kind (0 a voltage share, 1 a frequency above nominal, 2 one below), its limit
- * without sign, and its delay. Refuses with 1 where the image has another length or the line has not
- * GRIDPROFILE_LINE_MIN_BYTES to GRIDPROFILE_LINE_MAX_BYTES, then with 5 where the line breaks a
- * rule; bytes after its line feed do. */
+ * under-frequency its kind (GRIDPROFILE_KIND_SHARE, _ABOVE or _BELOW), its limit without sign, and
+ * its delay; the offsets above say where. Refuses with 1 where the image has another length or the
+ * line has not GRIDPROFILE_LINE_MIN_BYTES to GRIDPROFILE_LINE_MAX_BYTES, then with 5 where the line
+ * breaks a rule; bytes after its line feed do.
+ * Stack: 512 bytes. */
 uint8_t gridprofile_read_line(const uint8_t *line, size_t line_len, uint8_t *profile,
                               size_t profile_len);
 
 /* Writes the line of a profile's image at the front of GRIDPROFILE_LINE_MAX_BYTES lent bytes, and
  * its length to *length; bytes past it are not touched. The image's first byte is not looked at, and
- * a kind over 1 is a frequency below nominal. Refuses with 1 where either length is another, then
- * with 5 where the profile breaks a rule; *length is then as it was. */
+ * a kind over GRIDPROFILE_KIND_ABOVE is a frequency below nominal. Refuses with 1 where either
+ * length is another, then with 5 where the profile breaks a rule; *length is then as it was.
+ * Stack: 320 bytes. */
 uint8_t gridprofile_write_line(const uint8_t *profile, size_t profile_len, uint8_t *line,
                                size_t line_len, size_t *length);
 
@@ -187,8 +241,9 @@ uint8_t gridprofile_write_line(const uint8_t *profile, size_t profile_len, uint8
  * refused lines and an unfinished last one are skipped. The listing, a header and then country,
  * class and serial of every stored profile once in some order, stands at the front of
  * GRIDPROFILE_LISTING_BYTES lent bytes, and its length in *length; bytes past it are not touched. An
- * input of more than 65536 bytes gives only the text "too long" and a line feed. Refuses with 1
- * where out_len is another; *length is then as it was. */
+ * input of more than GRIDPROFILE_PREVIEW_MAX_BYTES gives only the text "too long" and a line feed.
+ * Refuses with 1 where out_len is another; *length is then as it was.
+ * Stack: 1600 bytes. */
 uint8_t gridprofile_preview(const uint8_t *input, size_t input_len, uint8_t *out, size_t out_len,
                             size_t *length);
 
@@ -196,7 +251,8 @@ uint8_t gridprofile_preview(const uint8_t *input, size_t input_len, uint8_t *out
  * GRIDPROFILE_PACKAGE_MAX_BYTES lent bytes, and its length to *length; bytes past it are not
  * touched. Seeds and salt are as for gridprofile_sign. Refuses with 1 where one of them or the
  * buffer has another length or the line has no line's length; with 5 where the line breaks a rule;
- * with 2 where a draw is short. *length is then as it was. */
+ * with 2 where a draw is short. *length is then as it was.
+ * Stack: 69440 bytes. */
 uint8_t gridprofile_make_package(const uint8_t *private_seed, size_t private_seed_len,
                                  const uint8_t *master_seed, size_t master_seed_len,
                                  const uint8_t *salt, size_t salt_len, const uint8_t *line,
@@ -204,16 +260,25 @@ uint8_t gridprofile_make_package(const uint8_t *private_seed, size_t private_see
                                  size_t *length);
 
 /* Loads a package into a store, on a device that is set to a country (two letters) and a class
- * (the letter's number, 65 to 68). A store is an image of GRIDPROFILE_STORE_IMAGE_BYTES, 16 images
- * of profiles, all zero when it is empty; a slot whose first byte is 0 is free. A greater serial
- * replaces the stored profile of its country and class in its slot; where none is stored, the
- * profile goes to a free slot, and which one is open. No byte of another slot is written. Refuses,
- * in this order, with 10 where country or class are none (a country of another length too); with 1
- * where image or key have another length or the package has not
- * GRIDPROFILE_PACKAGE_MIN_BYTES to GRIDPROFILE_PACKAGE_MAX_BYTES; with 3, 2 and 4
- * as gridprofile_verify does; with 5 where the line breaks a rule; with 6 where the profile is for
+ * (the letter's number, 65 to 68). A store is an image of GRIDPROFILE_STORE_IMAGE_BYTES,
+ * GRIDPROFILE_STORE_SLOTS images of profiles, all zero when it is empty; a slot whose first byte is
+ * 0 is free. A greater serial replaces the stored profile of its country and class in its slot;
+ * where none is stored, the profile goes to a free slot, and which one is open. No byte of another
+ * slot is written.
+ *
+ * Lend it a copy of the store in RAM, never the one that must outlast a loss of power: it writes
+ * GRIDPROFILE_PROFILE_IMAGE_BYTES of the image, and a loss of power in between would leave a mix of
+ * two profiles. After the answer 0 write the whole image to a place of its own, with something that
+ * tells whether it is whole, and act by the new profile only then; examples/banks.c shows how on
+ * flash.
+ *
+ * Refuses, in this order, with 10 where country or class are none (a country of another length
+ * too); with 1 where image or key have another length or the package has not
+ * GRIDPROFILE_PACKAGE_MIN_BYTES to GRIDPROFILE_PACKAGE_MAX_BYTES; with 3, 2 and 4 as
+ * gridprofile_verify does; with 5 where the line breaks a rule; with 6 where the profile is for
  * another country or class; with 7 where its serial is not greater than the stored one; with 8
- * where 16 others are stored. */
+ * where GRIDPROFILE_STORE_SLOTS others are stored.
+ * Stack: 16576 bytes. */
 uint8_t gridprofile_load(uint8_t *store, size_t store_len, const uint8_t *key, size_t key_len,
                          const uint8_t *package, size_t package_len, const uint8_t *country,
                          size_t country_len, uint32_t class_letter);
@@ -222,7 +287,8 @@ uint8_t gridprofile_load(uint8_t *store, size_t store_len, const uint8_t *key, s
  * gridprofile_write_line does. Refuses with 10 where country or class are none; with 1 where image
  * or buffer have another length; with 9 where nothing is stored for them; with 5 where what is
  * stored breaks a rule, which is never so in an image of zeros or in what loads made of one.
- * *length is then as it was. */
+ * *length is then as it was.
+ * Stack: 320 bytes. */
 uint8_t gridprofile_lookup(const uint8_t *store, size_t store_len, const uint8_t *country,
                            size_t country_len, uint32_t class_letter, uint8_t *line,
                            size_t line_len, size_t *length);

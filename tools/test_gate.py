@@ -9,6 +9,7 @@ sys.path.insert(0, os.path.dirname(os.path.abspath(__file__)))
 import edits  # noqa: E402
 import entries  # noqa: E402
 import source  # noqa: E402
+import stacks  # noqa: E402
 
 FOLDER = "/r/target/must-fail/laws/x"
 
@@ -54,6 +55,42 @@ class Edits(unittest.TestCase):
 
     def test_a_log_without_an_error_does_not_count(self):
         self.assertIsNotNone(self.judge("logic=not-proved\n"))
+
+
+class Stacks(unittest.TestCase):
+    HEADER = ("/* Stack: 900 bytes. is no function's. */\n#define A 1\n\n/* The first.\n * Stack: 640 bytes. */\n"
+              "void gridprofile_one(void);\n\n/* The second. Stack: 64 bytes. */\nuint8_t gridprofile_two(int a);\n")
+
+    def problems(self, measured, old="", new=""):
+        with tempfile.TemporaryDirectory() as root:
+            os.makedirs(os.path.join(root, "include"))
+            with open(os.path.join(root, entries.HEADER), "w") as file:
+                file.write(self.HEADER.replace(old, new, 1) if old else self.HEADER)
+            return dict(stacks.check(root, measured))
+
+    def refuses(self, said, *arguments):
+        found = self.problems(*arguments)
+        self.assertIn(said, found["stack of one"])
+        self.assertIsNone(found["stack of two"])
+
+    def test_true_figures(self):
+        for measured in (640, 600, 640 - stacks.SLACK):
+            found = self.problems(f"one {measured}\ntwo 64\n")
+            self.assertEqual(found, {"stack of one": None, "stack of two": None})
+
+    def test_too_small(self):
+        self.refuses("says 640 bytes of stack, and 641 were measured", "one 641\ntwo 64\n")
+
+    def test_far_too_large(self):
+        self.refuses("says 640 bytes of stack, and 383 were measured", f"one {639 - stacks.SLACK}\ntwo 64\n")
+
+    def test_missing(self):
+        self.refuses("says 0 times", "one 640\ntwo 64\n", "Stack: 640 bytes.", "Stack: some bytes.")
+        self.refuses("says 2 times", "one 640\ntwo 64\n", "The first.", "Stack: 640 bytes.")
+        self.refuses("was not measured", "two 64\n")
+
+    def test_a_measured_function_is_declared(self):
+        self.assertIn("says 0 times", self.problems("one 640\ntwo 64\nthree 8\n")["stack of three"])
 
 
 # A small repository: an entry that C calls through another crate, one where the sizes of a category decide, and one for

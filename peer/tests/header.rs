@@ -1,7 +1,7 @@
 //! The constants of the C header are the sizes and numbers of the independent program.
 
 use peer::bits::{packed_size, EXPONENT, VALUE};
-use peer::line;
+use peer::line::{self, Kind, Profile, Trip};
 use peer::preview;
 use peer::refusal;
 use peer::sizes::CATEGORY_1;
@@ -9,6 +9,7 @@ use peer::store;
 use std::collections::BTreeMap;
 
 const HEADER: &str = include_str!("../../include/gridprofile.h");
+const CHANGES: &str = include_str!("../../CHANGELOG.md");
 
 /// The defined names that stand for a plain number.
 fn constants() -> BTreeMap<String, usize> {
@@ -17,6 +18,61 @@ fn constants() -> BTreeMap<String, usize> {
         Some((words.next()?.to_string(), words.next()?.parse().ok()?))
     };
     HEADER.lines().filter_map(define).collect()
+}
+
+/// A profile whose image has no byte but that of a used slot.
+const NOTHING: Profile = {
+    let trip = Trip { kind: Kind::Share, limit: 0, delay: 0 };
+    Profile { country: [0; 2], class: 0, serial: 0, volts: 0, hertz: 0, trips: [trip; 4] }
+};
+
+/// Where the image of a profile first differs, when the profile is changed so.
+fn changes_at(change: impl Fn(&mut Profile)) -> usize {
+    let mut profile = NOTHING;
+    change(&mut profile);
+    let mut pairs = line::image(&NOTHING).into_iter().zip(line::image(&profile));
+    pairs.position(|(old, new)| old != new).expect("a field of the image")
+}
+
+/// Where the trip points of an image begin.
+fn trips() -> [usize; 4] {
+    [0, 1, 2, 3].map(|at| changes_at(|p| p.trips[at] = Trip { kind: Kind::Below, limit: 1, delay: 1 }))
+}
+
+/// Where the fields of an image stand, as the second program writes it.
+fn offsets() -> Vec<(&'static str, usize)> {
+    let [over_voltage, under_voltage, over_frequency, under_frequency] = trips();
+    vec![
+        ("USED_OFFSET", line::image(&NOTHING).into_iter().position(|byte| byte != 0).expect("used")),
+        ("COUNTRY_OFFSET", changes_at(|p| p.country[0] = 1)),
+        ("CLASS_OFFSET", changes_at(|p| p.class = 1)),
+        ("SERIAL_OFFSET", changes_at(|p| p.serial = 1)),
+        ("VOLTS_OFFSET", changes_at(|p| p.volts = 1)),
+        ("HERTZ_OFFSET", changes_at(|p| p.hertz = 1)),
+        ("OVER_VOLTAGE_OFFSET", over_voltage),
+        ("UNDER_VOLTAGE_OFFSET", under_voltage),
+        ("OVER_FREQUENCY_OFFSET", over_frequency),
+        ("UNDER_FREQUENCY_OFFSET", under_frequency),
+        ("TRIP_BYTES", under_voltage - over_voltage),
+        ("TRIP_KIND_OFFSET", changes_at(|p| p.trips[0].kind = Kind::Below) - over_voltage),
+        ("TRIP_LIMIT_OFFSET", changes_at(|p| p.trips[0].limit = 1) - over_voltage),
+        ("TRIP_DELAY_OFFSET", changes_at(|p| p.trips[0].delay = 1) - over_voltage),
+        ("KIND_SHARE", Kind::Share as usize),
+        ("KIND_ABOVE", Kind::Above as usize),
+        ("KIND_BELOW", Kind::Below as usize),
+    ]
+}
+
+/// The newest version that the changelog names.
+fn version() -> &'static str {
+    let named = CHANGES.lines().find_map(|line| line.strip_prefix("## ")).expect("a heading");
+    named.split_whitespace().next().expect("a version")
+}
+
+/// The three numbers of that version.
+fn version_numbers() -> Vec<(&'static str, usize)> {
+    let numbers = version().split('.').map(|number| number.parse().expect("a number"));
+    ["VERSION_MAJOR", "VERSION_MINOR", "VERSION_PATCH"].into_iter().zip(numbers).collect()
 }
 
 /// What each of them must be; the answers in their order.
@@ -39,10 +95,12 @@ fn expected() -> BTreeMap<String, usize> {
         ("LINE_MIN_BYTES", line::SHORTEST),
         ("LINE_MAX_BYTES", line::LONGEST),
         ("PROFILE_IMAGE_BYTES", line::IMAGE),
+        ("PREVIEW_MAX_BYTES", preview::LONGEST_INPUT),
         ("LISTING_BYTES", preview::LISTING),
         ("PACKAGE_MIN_BYTES", s.signature() + line::SHORTEST),
         ("PACKAGE_MAX_BYTES", s.signature() + line::LONGEST),
         ("STORE_IMAGE_BYTES", store::STORE),
+        ("STORE_SLOTS", store::CAPACITY),
         ("MATRIX_BLOCK_BYTES", s.matrix_block),
         ("EXPONENTS_BLOCK_BYTES", s.exponents_block),
         ("MASK_VALUES_BLOCK_BYTES", s.mask_values_block),
@@ -55,12 +113,24 @@ fn expected() -> BTreeMap<String, usize> {
     ];
     let later = ["BAD_PROFILE", "OTHER_DEVICE", "OLD_SERIAL", "STORE_FULL", "NOT_STORED", "BAD_DEVICE"];
     let later = later.into_iter().zip(5..);
-    [("DONE", 0)].into_iter().chain(sizes).chain(later).map(|(name, x)| (name.to_string(), x)).collect()
+    let all = [("DONE", 0)].into_iter().chain(sizes).chain(later).chain(offsets()).chain(version_numbers());
+    all.map(|(name, x)| (name.to_string(), x)).collect()
 }
 
 #[test]
 fn constants_of_the_header() {
     assert_eq!(constants(), expected());
+}
+
+/// The version as text is that of the changelog, and so are its three numbers.
+#[test]
+fn version_of_the_header() {
+    let text = format!("#define GRIDPROFILE_VERSION \"{}\"", version());
+    assert_eq!(HEADER.lines().filter(|line| **line == text).count(), 1);
+    let numbers = version_numbers();
+    assert_eq!(numbers.len(), 3);
+    let joined: Vec<_> = numbers.iter().map(|(name, _)| constants()[*name].to_string()).collect();
+    assert_eq!(joined.join("."), version());
 }
 
 /// The header's two formulas for packed sizes, written so that no product overflows.
