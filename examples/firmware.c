@@ -1,10 +1,16 @@
-/* How firmware uses the library: a built-in key, a store in static memory, and no allocation.
+/* How firmware uses the library: a built-in key, a store in two banks of flash with a copy in RAM,
+ * and no allocation.
  *
  * A package arrives on standard input, as it would over the plant's network. The exit status is the
- * library's answer to loading it. */
+ * library's answer to loading it, or one of the two below. */
 #include <stdio.h>
+#include <string.h>
 
+#include "banks.h"
 #include "gridprofile.h"
+
+#define NOT_COMMITTED 100 /* the package was loaded, and the flash did not take the new store */
+#define NO_STORE 101      /* no bank has a store: the device must not work by an empty one */
 
 /* What this device is set to. */
 static const uint8_t country[2] = {'X', 'A'};
@@ -20,7 +26,30 @@ static const uint8_t key[GRIDPROFILE_KEY_BYTES] = {
     0xB2, 0x6E, 0x0B, 0x27, 0xBF, 0x9B, 0x56, 0x6F, 0xC3, 0x4A, 0xBD, 0x1C,
 };
 
-/* On a device this lies in memory that outlasts a loss of power. All zero is the empty store. */
+/* On a device: the flash driver. Here two arrays stand for the banks. */
+static uint8_t cells[BANKS_COUNT][BANKS_RECORD_BYTES];
+
+static bool flash_erase(unsigned bank)
+{
+    memset(cells[bank], BANKS_ERASED, sizeof cells[bank]);
+    return true;
+}
+
+static bool flash_program(unsigned bank, size_t offset, const uint8_t *bytes, size_t length)
+{
+    memcpy(cells[bank] + offset, bytes, length);
+    return true;
+}
+
+static bool flash_read(unsigned bank, size_t offset, uint8_t *bytes, size_t length)
+{
+    memcpy(bytes, cells[bank] + offset, length);
+    return true;
+}
+
+static const struct banks_flash flash = {flash_erase, flash_program, flash_read};
+
+/* The copy in RAM of the store that counts. Loading changes this copy alone. */
 static uint8_t store[GRIDPROFILE_STORE_IMAGE_BYTES];
 
 /* One byte more than a package may have, so that a longer one is not taken for a whole one. */
@@ -42,7 +71,7 @@ static uint8_t verify(size_t length)
                               GRIDPROFILE_SIGNATURE_BYTES);
 }
 
-/* Verifies and stores, or refuses and leaves the store as it was. */
+/* Verifies and stores in the copy, or refuses and leaves it as it was. */
 static uint8_t load(size_t length)
 {
     return gridprofile_load(store, sizeof store, key, sizeof key, package, length, country,
@@ -61,14 +90,54 @@ static void print_own_profile(void)
         (void)fwrite(line, 1, length, stdout);
 }
 
-int main(void)
+/* What the device acts by is always read from the banks: it is what would be found after a loss of
+ * power. */
+static bool read_store(void)
+{
+    enum banks_answer answer = banks_read(&flash, store);
+    if (answer != BANKS_DONE)
+        printf("reading the store answers %d\n", answer);
+    return answer == BANKS_DONE;
+}
+
+static bool commit_store(void)
+{
+    enum banks_answer answer = banks_commit(&flash, store);
+    if (answer == BANKS_DONE)
+        printf("committed\n");
+    else
+        printf("commit answers %d\n", answer);
+    return answer == BANKS_DONE;
+}
+
+/* Once, in the factory: a new device has the empty store. */
+static void leave_factory(void)
+{
+    (void)flash_erase(0);
+    (void)flash_erase(1);
+    (void)banks_format(&flash);
+}
+
+/* The device at work. After a refused load or a failed commit the copy is read again, and after a
+ * commit too, so that nothing acts by a profile before it is committed. */
+static int work(void)
 {
     size_t length = receive();
-    uint8_t answer;
+    int status;
     printf("verify answers %d\n", verify(length));
-    answer = load(length);
-    printf("load answers %d\n", answer);
+    status = load(length);
+    printf("load answers %d\n", status);
+    if (status == GRIDPROFILE_DONE && !commit_store())
+        status = NOT_COMMITTED;
+    if (!read_store())
+        return NO_STORE;
     print_own_profile();
     printf("load of the same package again answers %d\n", load(length));
-    return answer;
+    return status;
+}
+
+int main(void)
+{
+    leave_factory();
+    return read_store() ? work() : NO_STORE;
 }

@@ -373,16 +373,48 @@ class Readme(Case):
 
 
 class Firmware(Case):
+    SOURCE = "examples/firmware.c"
+    PROGRAM = "target/firmware"
+    TAKES = "memcpy(cells[bank] + offset, bytes, length);"
+
     def setUp(self):
         """Builds it by the README's own line."""
         super().setUp()
-        built = subprocess.run(shlex.split(readme_line("cc ")), cwd=ROOT, capture_output=True, check=False)
+        self.command = shlex.split(readme_line("cc "))
+        self.build(self.command)
+
+    def build(self, command):
+        built = subprocess.run(command, cwd=ROOT, capture_output=True, check=False)
         self.assertEqual((built.returncode, built.stdout + built.stderr), (0, b""))
+
+    def with_flash(self, old, new):
+        """A firmware whose simulated flash is another: how it ends with a good package, and what it says."""
+        with open(os.path.join(ROOT, self.SOURCE), encoding="utf-8") as file:
+            text = file.read()
+        self.assertEqual(text.count(old), 1, old)
+        changed = {self.SOURCE: self.path(self.put("other.c", text.replace(old, new).encode())),
+                   self.PROGRAM: self.path("other")}
+        self.assertLessEqual(set(changed), set(self.command))
+        self.build([changed.get(word, word) for word in self.command] + ["-I", "examples"])
+        package = self.get(self.package())
+        ran = subprocess.run([self.path("other")], input=package, capture_output=True, check=False)
+        return ran.returncode, ran.stdout
 
     def test_good_package_by_the_line_of_the_readme(self):
         ran = subprocess.run(readme_line("target/firmware "), shell=True, cwd=ROOT, capture_output=True, check=False)
-        said = b"verify answers 0\nload answers 0\nlookup answers 0\n" + LINE
+        said = b"verify answers 0\nload answers 0\ncommitted\nlookup answers 0\n" + LINE
         self.assertEqual((ran.returncode, ran.stdout), (0, said + b"load of the same package again answers 7\n"))
+
+    def test_flash_that_does_not_take_the_new_store(self):
+        """The last byte of the second record is lost: the device goes on with the store that it had."""
+        ran = self.with_flash(self.TAKES, self.TAKES.replace("length", "length - bank"))
+        said = b"verify answers 0\nload answers 0\ncommit answers 3\nlookup answers 9\n"
+        self.assertEqual(ran, (100, said + b"load of the same package again answers 0\n"))
+
+    def test_flash_without_a_store(self):
+        """The last byte of every record is lost: the device does not start with an empty store."""
+        ran = self.with_flash(self.TAKES, self.TAKES.replace("length", "length - 1"))
+        self.assertEqual(ran, (101, b"reading the store answers 2\n"))
 
     def test_refused_packages(self):
         package, other = self.get(self.package()), self.get(self.package(LINE_C))
