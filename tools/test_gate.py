@@ -8,6 +8,7 @@ import unittest
 sys.path.insert(0, os.path.dirname(os.path.abspath(__file__)))
 import edits  # noqa: E402
 import entries  # noqa: E402
+import power  # noqa: E402
 import source  # noqa: E402
 import stacks  # noqa: E402
 
@@ -55,6 +56,31 @@ class Edits(unittest.TestCase):
 
     def test_a_log_without_an_error_does_not_count(self):
         self.assertIsNotNone(self.judge("logic=not-proved\n"))
+
+
+class Power(unittest.TestCase):
+    def test_a_fault_is_planted_once(self):
+        self.assertEqual(power.planted("a b c", "b", "x"), "a x c")
+        self.assertIsNone(power.planted("a b b", "b", "x"))
+        self.assertIsNone(power.planted("a c", "b", "x"))
+
+    def test_only_the_verdict_asked_for_counts(self):
+        said = "FAILED it is found\n"
+        self.assertIsNone(power.unseen(1, f"ok flips: 3 checks\n{said}  a byte cut\n", "it is found"))
+        for status, output in ((0, said), (-11, said), (2, said), (1, ""), (1, "FAILED it is found late\n")):
+            self.assertIsNotNone(power.unseen(status, output, "it is found"))
+
+    def test_every_run_counts(self):
+        """With a program that never fails, the test passes and no planted fault is seen; one that does not compile is
+        never taken for a fault that was seen."""
+        for compiles, wrong in ((0, len(power.PLANTED)), (1, len(power.PLANTED) + 2)):
+            with tempfile.TemporaryDirectory() as root:
+                os.makedirs(os.path.join(root, "examples"))
+                with open(os.path.join(root, power.BANKS), "w") as file:
+                    file.write("\n".join({old for _, old, *_ in power.PLANTED}))
+                ran = list(power.check(root, lambda *command: (compiles if command[0] == "gcc" else 0, "")))
+            self.assertEqual(len(ran), len(power.PLANTED) + 2)
+            self.assertEqual(sum(problem is not None for _, problem in ran), wrong)
 
 
 class Stacks(unittest.TestCase):
