@@ -48,3 +48,9 @@ cli:
 $(PROGRAM): $(SOURCES) tools/gridprofile/program.h include/gridprofile.h $(ARCHIVE)
 	mkdir -p $(@D)
 	gcc -std=c11 -O2 -Wall -Wextra -Werror -pedantic -I include $(SOURCES) $(ARCHIVE) -o $@
+
+# Bytes of text that firmware links, for some choices of entries.
+.PHONY: size
+size:
+	rt staticlib gridprofile
+	@python3 -B tools/sizes.py

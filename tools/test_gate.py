@@ -9,6 +9,7 @@ sys.path.insert(0, os.path.dirname(os.path.abspath(__file__)))
 import edits  # noqa: E402
 import entries  # noqa: E402
 import power  # noqa: E402
+import sizes  # noqa: E402
 import source  # noqa: E402
 import stacks  # noqa: E402
 
@@ -81,6 +82,28 @@ class Power(unittest.TestCase):
                 ran = list(power.check(root, lambda *command: (compiles if command[0] == "gcc" else 0, "")))
             self.assertEqual(len(ran), len(power.PLANTED) + 2)
             self.assertEqual(sum(problem is not None for _, problem in ran), wrong)
+
+
+class Sizes(unittest.TestCase):
+    README = "| Linked | Text |\n|---|---|\n| verify | 29,582 |\n| load, lookup | 900 |\n"
+
+    def test_true_figures(self):
+        self.assertEqual(sizes.stated(self.README, "verify"), [29582])
+        self.assertEqual(sizes.stated(self.README, "load, lookup"), [900])
+        for used in (29582, 28800, 30400):
+            self.assertIsNone(sizes.problem([29582], used))
+
+    def test_other_figures(self):
+        for used in (28000, 31000):
+            self.assertIn(f"says 29582 bytes of text, and {used} were measured", sizes.problem([29582], used))
+
+    def test_rows_that_are_missing_or_twice(self):
+        for readme, times in ((self.README.replace("verify", "sign"), 0), (self.README * 2, 2)):
+            self.assertIn(f"README has {times} such rows", sizes.problem(sizes.stated(readme, "verify"), 29582))
+
+    def test_what_cannot_be_measured(self):
+        with tempfile.TemporaryDirectory() as root:
+            self.assertEqual(["it cannot be" in problem for _, problem in sizes.check(root)], [True] * len(sizes.ROWS))
 
 
 class Stacks(unittest.TestCase):
