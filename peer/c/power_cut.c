@@ -52,9 +52,10 @@ static void expect(bool good, const char *what)
     if (good)
         return;
     printf("FAILED %s\n", what);
-    if (cut_at != NEVER || first_cut != NEVER)
-        printf("  a byte cut: %s; changes before the first cut and before the last: %zu, %zu\n",
-               model_names[model], first_cut, cut_at);
+    if (first_cut != NEVER)
+        printf("  model: %s; changes before the first cut: %zu\n", model_names[model], first_cut);
+    if (cut_at != NEVER)
+        printf("  changes before the last cut: %zu\n", cut_at);
     exit(1);
 }
 
@@ -442,6 +443,12 @@ static void garbage(void)
 
 /* ---- counters */
 
+/* The digest of a new device's record, as docs/FORMATS.md has it. */
+static const uint8_t worked[GRIDPROFILE_DIGEST_BYTES] = {
+    0xC2, 0x5B, 0x04, 0x5F, 0xF6, 0x99, 0x4E, 0xF4, 0x6F, 0x87, 0x15, 0xB6, 0x58, 0x5C, 0x5E, 0xC4,
+    0xE3, 0x1B, 0x7C, 0x58, 0x1E, 0x39, 0x56, 0xB2, 0x08, 0xAA, 0x48, 0xB8, 0x33, 0x04, 0x14, 0x03,
+};
+
 /* The record as docs/FORMATS.md has it. */
 static void make_record(uint8_t *record, uint32_t counter, const uint8_t *image)
 {
@@ -480,6 +487,8 @@ static void counters(void)
                                     2147483647, 2147483648, 4294967294, 4294967295};
     const size_t count = sizeof some / sizeof *some;
     flash = starts[0].flash;
+    expect(memcmp(flash.cells[0] + RECORD - sizeof worked, worked, sizeof worked) == 0,
+           "a new device has the worked record");
     for (size_t pair = 0; pair < count * count; pair++)
         commit_over(some[pair / count], some[pair % count]);
 }
