@@ -63,6 +63,9 @@ int file_trouble(const char *doing, const char *path, const char *why);
 int refused(const char *command, int answer, const struct input *inputs, size_t count);
 void print_refusals(FILE *to);
 
+/* explain.c: what is wrong first with a line that the library refuses. */
+void explain_line(FILE *to, const uint8_t *line, size_t length);
+
 /* words.c: prints a profile's image, or answers 5 where it breaks a rule. */
 int print_profile(const uint8_t *image);
 

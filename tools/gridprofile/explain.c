@@ -1,0 +1,339 @@
+/* What is wrong with a profile line, in words. docs/FORMATS.md, "Profile line", has the rules; the
+ * library decides by them, and this only says where a line that it refused breaks the first one. */
+#include "program.h"
+
+#include <string.h>
+
+enum { FIELDS = 14, CLASS_FIELD = 2, VOLTS_FIELD = 4 };
+
+/* More of a field is not shown, so that one field cannot fill the screen. */
+enum { SHOWN = 24 };
+
+/* What parts this many fields is meant as a line, whatever it begins with. */
+enum { TELLING_MARKS = 10 };
+
+enum form { TAG, TWO_LETTERS, ONE_LETTER, NUMBER, NEGATIVE, EITHER };
+
+struct rule {
+    const char *name;
+    enum form form;
+    uint32_t least, most; /* of a number, without its minus */
+    const char *must;
+};
+
+#define DELAY_RULE(name) {name " delay", NUMBER, 20, 60000, "20 to 60000 ms"}
+
+static const struct rule rules[FIELDS] = {
+    {"tag", TAG, 0, 0, "GP1"},
+    {"country", TWO_LETTERS, 0, 0, "two letters A to Z"},
+    {"class", ONE_LETTER, 0, 0,
+     "A (100 to 139 V), B (140 to 259), C (260 to 519) or D (520 to 1000)"},
+    {"serial", NUMBER, 1, UINT32_MAX, "1 to 4294967295"},
+    {"nominal volts", NUMBER, 100, 1000, "100 to 1000"},
+    {"hertz", EITHER, 50, 60, "50 or 60"},
+    {"over-voltage", NUMBER, 1001, 1500, "1001 to 1500 thousandths of nominal"},
+    DELAY_RULE("over-voltage"),
+    {"under-voltage", NUMBER, 1, 999, "1 to 999 thousandths of nominal"},
+    DELAY_RULE("under-voltage"),
+    {"over-frequency", NUMBER, 1, 5000, "1 to 5000 mHz above nominal"},
+    DELAY_RULE("over-frequency"),
+    {"under-frequency", NEGATIVE, 1, 5000, "-5000 to -1 mHz"},
+    DELAY_RULE("under-frequency"),
+};
+
+struct part {
+    const uint8_t *at;
+    size_t length;
+};
+
+/* A line taken apart: what stands around its fields, and the fields. */
+struct line {
+    struct part text;           /* the first line, without mark and line end */
+    int utf_8, utf_16;          /* the byte order mark in front */
+    int carriage, feed;         /* the bytes that end it */
+    int more;                   /* something after the line feed */
+    int open;                   /* it is too long to be a line, and may go on past what was read */
+    struct part fields[FIELDS]; /* NULL where one is missing */
+    size_t count;               /* of all fields, also past the last that there may be */
+};
+
+static int begins(struct part part, const char *bytes, size_t count)
+{
+    return part.length >= count && memcmp(part.at, bytes, count) == 0;
+}
+
+static void cut_fields(struct line *line)
+{
+    line->count = 1;
+    line->fields[0] = (struct part){line->text.at, 0};
+    for (size_t at = 0; at < line->text.length; at++) {
+        int comma = line->text.at[at] == ',';
+        line->count += comma ? 1 : 0;
+        if (line->count > FIELDS)
+            continue;
+        if (comma)
+            line->fields[line->count - 1] = (struct part){line->text.at + at + 1, 0};
+        else
+            line->fields[line->count - 1].length++;
+    }
+}
+
+static void cut_line(struct line *line, const uint8_t *bytes, size_t length)
+{
+    const uint8_t *feed = length > 0 ? memchr(bytes, '\n', length) : NULL;
+    struct part *text = &line->text;
+    *text = (struct part){bytes, feed != NULL ? (size_t)(feed - bytes) : length};
+    line->feed = feed != NULL;
+    line->more = feed != NULL && text->length + 1 < length;
+    line->open = feed == NULL && length > GRIDPROFILE_LINE_MAX_BYTES;
+    line->carriage = text->length > 0 && text->at[text->length - 1] == '\r';
+    text->length -= line->carriage ? 1 : 0;
+    line->utf_16 = begins(*text, "\xFF\xFE", 2) || begins(*text, "\xFE\xFF", 2);
+    line->utf_8 = begins(*text, "\xEF\xBB\xBF", 3);
+    text->at += line->utf_8 ? 3 : 0;
+    text->length -= line->utf_8 ? 3 : 0;
+    cut_fields(line);
+}
+
+static int has_any(struct part part, const char *bytes)
+{
+    for (size_t at = 0; at < part.length; at++)
+        if (memchr(bytes, part.at[at], strlen(bytes)) != NULL)
+            return 1;
+    return 0;
+}
+
+static int is_plain(struct part part)
+{
+    for (size_t at = 0; at < part.length; at++)
+        if (part.at[at] >= 0x80)
+            return 0;
+    return 1;
+}
+
+static int is_digits(struct part part)
+{
+    for (size_t at = 0; at < part.length; at++)
+        if (part.at[at] < '0' || part.at[at] > '9')
+            return 0;
+    return part.length > 0;
+}
+
+/* A seed may be given for a line by mistake, and nothing may be shown of it: none is like this. */
+static int is_meant_as_line(struct part text)
+{
+    size_t marks = 0;
+    for (size_t at = 0; at < text.length; at++)
+        marks += memchr(",;\t", text.at[at], 3) != NULL ? 1 : 0;
+    return marks >= TELLING_MARKS || begins(text, "GP1", 3);
+}
+
+/* Of any number of digits; it stops at the first value that is too great for every field. */
+static uint64_t value_of(struct part digits)
+{
+    uint64_t value = 0;
+    for (size_t at = 0; at < digits.length && value <= UINT32_MAX; at++)
+        value = value * 10 + (uint64_t)(digits.at[at] - '0');
+    return value;
+}
+
+static int is_between(uint8_t byte, char first, char last)
+{
+    return byte >= (uint8_t)first && byte <= (uint8_t)last;
+}
+
+static int letters_fit(enum form form, struct part part)
+{
+    if (form == TAG)
+        return part.length == 3 && begins(part, "GP1", 3);
+    if (form == ONE_LETTER)
+        return part.length == 1 && is_between(part.at[0], 'A', 'D');
+    return part.length == 2 && is_between(part.at[0], 'A', 'Z') && is_between(part.at[1], 'A', 'Z');
+}
+
+static int raised_letters_fit(enum form form, struct part part)
+{
+    uint8_t raised[4] = {0};
+    struct part copy = {raised, part.length};
+    for (size_t at = 0; at < part.length && at < sizeof raised; at++)
+        raised[at] = part.at[at] - (is_between(part.at[at], 'a', 'z') ? 'a' - 'A' : 0);
+    return part.length <= sizeof raised && letters_fit(form, copy);
+}
+
+/* Words for bytes that stand in no field. */
+static const char *odd_bytes(struct part part, const char *otherwise)
+{
+    if (has_any(part, " \t"))
+        return ", with a space or a tab";
+    if (has_any(part, "\""))
+        return ", with a quote";
+    return is_plain(part) ? otherwise : ", with bytes that are not plain ASCII";
+}
+
+static const char *letters_trouble(enum form form, struct part part)
+{
+    if (letters_fit(form, part))
+        return NULL;
+    return raised_letters_fit(form, part) ? ", in lower case" : odd_bytes(part, "");
+}
+
+static int number_fits(const struct rule *rule, uint64_t value)
+{
+    if (rule->form == EITHER)
+        return value == rule->least || value == rule->most;
+    return value >= rule->least && value <= rule->most;
+}
+
+static const char *number_trouble(const struct rule *rule, struct part part)
+{
+    size_t sign = begins(part, "-", 1) || begins(part, "+", 1) ? 1 : 0;
+    int minus = begins(part, "-", 1), wanted = rule->form == NEGATIVE;
+    struct part digits = {part.at + sign, part.length - sign};
+    if (!is_digits(digits))
+        return odd_bytes(part, has_any(part, ".'_") ? ", with a decimal point or a thousands mark"
+                                                    : ", not digits alone");
+    if (sign && !minus)
+        return ", with a plus";
+    if (minus != wanted)
+        return minus ? ", with a minus" : ", without a minus";
+    if (digits.length > 1 && digits.at[0] == '0')
+        return ", with a leading zero";
+    return number_fits(rule, value_of(digits)) ? NULL : "";
+}
+
+/* NULL where a field keeps its rule by itself, else words on what is wrong with it, or none where
+ * the rule says it all. */
+static const char *trouble(size_t field, struct part part)
+{
+    const struct rule *rule = &rules[field];
+    if (part.length == 0)
+        return "";
+    return rule->form < NUMBER ? letters_trouble(rule->form, part) : number_trouble(rule, part);
+}
+
+static char class_of(int volts)
+{
+    return volts < 140 ? 'A' : volts < 260 ? 'B' : volts < 520 ? 'C' : 'D';
+}
+
+/* Class and volts are both good, and do not fit. */
+static int class_differs(const struct line *line)
+{
+    struct part letter = line->fields[CLASS_FIELD], volts = line->fields[VOLTS_FIELD];
+    return trouble(CLASS_FIELD, letter) == NULL && trouble(VOLTS_FIELD, volts) == NULL &&
+           letter.at[0] != class_of((int)value_of(volts));
+}
+
+/* The first field that breaks a rule, from 0: one that is missing too, or FIELDS. */
+static size_t first_broken(const struct line *line)
+{
+    size_t field = 0;
+    while (field < FIELDS && trouble(field, line->fields[field]) == NULL &&
+           !(field == CLASS_FIELD && class_differs(line)))
+        field++;
+    return field;
+}
+
+/* Nothing is shown as it is that a terminal could take for an order, or a reader for our quotes. */
+static int is_shown_plain(uint8_t byte)
+{
+    return is_between(byte, ' ', '~') && byte != '"' && byte != '\\';
+}
+
+/* How many bytes of a part are shown. */
+static size_t count_shown(struct part part)
+{
+    size_t count = 0, width = 0;
+    while (count < part.length && width <= SHOWN)
+        width += is_shown_plain(part.at[count++]) ? 1 : 4;
+    return width <= SHOWN ? count : count - 1;
+}
+
+static void print_bytes(FILE *to, struct part part)
+{
+    size_t count = count_shown(part);
+    fputc('"', to);
+    for (size_t at = 0; at < count; at++)
+        fprintf(to, is_shown_plain(part.at[at]) ? "%c" : "\\x%02X", part.at[at]);
+    fputs(count < part.length ? "\"..." : "\"", to);
+}
+
+static void print_part(FILE *to, struct part part)
+{
+    if (part.at == NULL)
+        fputs("missing", to);
+    else if (part.length == 0)
+        fputs("empty", to);
+    else
+        print_bytes(to, part);
+}
+
+static void print_first_broken(FILE *to, const struct line *line)
+{
+    size_t field = first_broken(line);
+    if (field == FIELDS)
+        return;
+    fprintf(to, "  field %zu, %s, is ", field + 1, rules[field].name);
+    print_part(to, line->fields[field]);
+    if (field == CLASS_FIELD && class_differs(line)) {
+        int volts = (int)value_of(line->fields[VOLTS_FIELD]);
+        fprintf(to, ", but %d volts are of class %c\n", volts, class_of(volts));
+    } else {
+        fprintf(to, "%s; it must be %s\n", trouble(field, line->fields[field]), rules[field].must);
+    }
+}
+
+static void print_count(FILE *to, const struct line *line)
+{
+    if (line->count == FIELDS || (line->open && line->count < FIELDS))
+        return;
+    fprintf(to, "  the line has %zu field%s%s; it must have %d, ", line->count,
+            line->count == 1 ? "" : "s", line->open ? " or more" : "", FIELDS);
+    fputs(line->count < FIELDS ? "parted by commas\n" : "and no comma within a number\n", to);
+}
+
+static void print_end(FILE *to, const struct line *line)
+{
+    if (line->open)
+        fprintf(to, "  no line feed stands in its first %d bytes\n", GRIDPROFILE_LINE_MAX_BYTES);
+    else if (!line->feed && line->carriage)
+        fputs("  the line ends in CR (0D); it must end in LF (0A)\n", to);
+    else if (!line->feed)
+        fputs("  the line feed at the end is missing\n", to);
+    else if (line->carriage)
+        fputs("  the line ends in CR LF, as Windows writes it; it must end in LF alone\n", to);
+    if (line->more)
+        fputs("  bytes stand after the line feed; there must be one line and nothing else\n", to);
+}
+
+/* What is in front can make further words mislead; answers whether it does. */
+static int print_front(FILE *to, const struct line *line)
+{
+    if (line->utf_16) {
+        fputs("  a byte order mark of UTF-16 stands in front; save the file as plain ASCII\n", to);
+        return 1;
+    }
+    if (line->utf_8)
+        fputs("  a byte order mark (EF BB BF) stands in front; save the file without it\n", to);
+    if (line->text.length == 0) {
+        fputs("  the line is empty\n", to);
+    } else if (!is_meant_as_line(line->text)) {
+        fputs("  field 1, tag, is not GP1; this does not look like a profile line\n", to);
+        return 1;
+    }
+    return 0;
+}
+
+void explain_line(FILE *to, const uint8_t *bytes, size_t length)
+{
+    struct line line = {0};
+    cut_line(&line, bytes, length);
+    if (print_front(to, &line))
+        return;
+    if (line.text.length > 0) {
+        print_first_broken(to, &line);
+        print_count(to, &line);
+    }
+    if (length > 0)
+        print_end(to, &line);
+}
