@@ -66,7 +66,8 @@ void print_refusals(FILE *to);
 /* explain.c: what is wrong first with a line that the library refuses. */
 void explain_line(FILE *to, const uint8_t *line, size_t length);
 
-/* words.c: prints a profile's image, or answers 5 where it breaks a rule. */
+/* words.c: `print_profile` prints a profile's image, or answers 5 where it breaks a rule. */
+uint32_t number_at(const uint8_t *image, size_t offset);
 int print_profile(const uint8_t *image);
 
 /* usage.c */
