@@ -13,6 +13,7 @@ sys.path.insert(0, os.path.dirname(os.path.abspath(__file__)))
 from cli_case import (ARCHIVE, BAD_LINE, LINE, LINE_C, MASTER, PREVIEW, PRIVATE, PROGRAM, ROOT, SALT,  # noqa: E402
                       SIGNATURE, STORE, WRONG_USAGE, Case, line_of, shake)
 import test_cli_files  # noqa: E402
+import test_cli_lines  # noqa: E402
 
 
 class Key(Case):
@@ -464,7 +465,7 @@ class Result(unittest.TestResult):
 def main():
     load = unittest.defaultTestLoader.loadTestsFromModule
     result = Result()
-    unittest.TestSuite([load(sys.modules[__name__]), load(test_cli_files)]).run(result)
+    unittest.TestSuite([load(sys.modules[__name__]), load(test_cli_files), load(test_cli_lines)]).run(result)
     bad = len(result.failures) + len(result.errors)
     print(f"program: {result.testsRun - bad} ok, {bad} failed")
     sys.exit(1 if bad or result.testsRun == 0 else 0)
