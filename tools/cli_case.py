@@ -13,9 +13,14 @@ ARCHIVE = os.environ.get("GRIDPROFILE_ARCHIVE", os.path.join(ROOT, "target/stati
 PREVIEW = os.environ.get("GRIDPROFILE_PREVIEW", os.path.join(ROOT, "target/bin/preview_main"))
 
 WRONG_USAGE = 64
+DAMAGED_STORE = 65
+SELF_CHECK_FAILED = 70
+NO_RANDOM_BYTES = 71
 FILE_TROUBLE = 74
 SIGNATURE = 19152
-STORE = 1024
+# A store's image, and the file that the program makes of it.
+IMAGE = 1024
+STORE = 1056
 
 # The seeds that examples/README.md tells.
 PRIVATE = bytes(range(32))
@@ -39,8 +44,26 @@ def shake(data, length):
     return hashlib.shake_128(data).digest(length)
 
 
+def sealed(image):
+    """The store file of an image: its checksum stands behind it."""
+    return image + shake(image, 32)
+
+
+def fingerprint(key):
+    """The line that names a key."""
+    digits = shake(key, 16).hex()
+    return "key fingerprint: " + " ".join(digits[at:at + 4] for at in range(0, 32, 4)) + "\n"
+
+
+# The seeds are named so that a seed is a file which only its owner can read.
+SECRET_NAMES = ("private", "master")
+GIVEN = ("--key", "key", "--given-master-seed", "master", "--given-salt", "salt")
+
+
 class Case(unittest.TestCase):
     """A test in a folder of its own, which it works in."""
+
+    program = PROGRAM
 
     def setUp(self):
         self.folder = tempfile.mkdtemp(prefix="gridprofile-test-")
@@ -53,6 +76,8 @@ class Case(unittest.TestCase):
     def put(self, name, data):
         with open(self.path(name), "wb") as file:
             file.write(data)
+        if name in SECRET_NAMES:
+            os.chmod(self.path(name), 0o600)
         return name
 
     def get(self, name):
@@ -65,13 +90,20 @@ class Case(unittest.TestCase):
     def run_in(self, *words, stdin=b"", **options):
         """Runs the program in the test's folder, with what it says caught unless the options say other."""
         options = {"input": stdin, "stdout": subprocess.PIPE, "stderr": subprocess.PIPE, **options}
-        return subprocess.run([PROGRAM, *words], cwd=self.folder, timeout=60, check=False, **options)
+        return subprocess.run([self.program, *words], cwd=self.folder, timeout=60, check=False, **options)
 
     def done(self, *words, **options):
         """The program does it and says nothing on standard error; what it prints."""
         ran = self.run_in(*words, **options)
         self.assertEqual((ran.returncode, ran.stderr), (0, b""), words)
         return ran.stdout
+
+    def warned(self, *words, **options):
+        """The program does it, and says something on standard error: what it prints, and that."""
+        ran = self.run_in(*words, **options)
+        self.assertEqual(ran.returncode, 0, (words, ran.stderr))
+        self.assertNotEqual(ran.stderr, b"", words)
+        return ran.stdout, ran.stderr.decode()
 
     def refused(self, number, *words, **options):
         """The program refuses with this number, says so and what to do, and changes no file."""
@@ -104,18 +136,30 @@ class Case(unittest.TestCase):
             seen[name] = (state.st_ino, state.st_mode, state.st_mtime_ns, self.get(name) if plain else None)
         return seen
 
-    def make(self, *words):
-        """What a command that writes to standard output makes of named inputs; each is made once."""
-        key = (words[0], *(self.get(word) for word in words[1:]))
+    def make(self, name, words, *parts):
+        """A file with what a command makes of these files on standard output; each is made once."""
+        key = (words[0], *(data for _, data in parts))
+        for part in parts:
+            self.put(*part)
         if key not in made:
-            made[key] = self.done(*words, "-")
-        return made[key]
+            made[key], _ = self.warned(*words)
+        return self.put(name, made[key])
 
-    def key(self, private=PRIVATE):
+    def key(self, private=PRIVATE, name="key"):
         """The name of a file with the public key of a private seed."""
-        return self.put("key", self.make("key", self.put("private", private)))
+        return self.make(name, ("key", "private", "-"), ("private", private))
 
     def package(self, line=LINE, name="package", private=PRIVATE, master=MASTER):
         """The name of a file with a package of a line."""
+        self.key(private)
         parts = ("private", private), ("master", master), ("salt", SALT), ("line", line)
-        return self.put(name, self.make("sign", *(self.put(*part) for part in parts)))
+        return self.make(name, ("sign", "private", "line", "-", *GIVEN), *parts)
+
+    def store(self, *lines, name="store"):
+        """The name of a file with an empty store, into which lines are then loaded."""
+        self.put(name, sealed(bytes(IMAGE)))
+        self.key()
+        for line in lines:
+            country, letter = line.decode().split(",")[1:3]
+            self.done("load", name, "key", self.package(line), country, letter)
+        return name

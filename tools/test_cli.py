@@ -4,30 +4,35 @@ Refusal 2 cannot: nobody knows seeds whose draws are short. Prints a line for ea
 import os
 import re
 import shlex
+import shutil
 import subprocess
 import sys
 import unittest
 
 sys.dont_write_bytecode = True
 sys.path.insert(0, os.path.dirname(os.path.abspath(__file__)))
-from cli_case import (ARCHIVE, BAD_LINE, LINE, LINE_C, MASTER, PREVIEW, PRIVATE, PROGRAM, ROOT, SALT,  # noqa: E402
-                      SIGNATURE, STORE, WRONG_USAGE, Case, line_of, shake)
+from cli_case import (ARCHIVE, BAD_LINE, DAMAGED_STORE, FILE_TROUBLE, GIVEN, IMAGE, LINE, LINE_C,  # noqa: E402
+                      MASTER, NO_RANDOM_BYTES, PREVIEW, PRIVATE, PROGRAM, ROOT, SALT, SELF_CHECK_FAILED, SIGNATURE,
+                      STORE, WRONG_USAGE, Case, fingerprint, line_of, sealed, shake)
 import test_cli_files  # noqa: E402
 import test_cli_lines  # noqa: E402
+import test_cli_safe  # noqa: E402
 
 
 class Key(Case):
     def test_key_begins_with_the_public_seed(self):
-        self.done("key", self.put("private", PRIVATE), "key")
+        said = self.done("key", self.put("private", PRIVATE), "key")
         key = self.get("key")
         self.assertEqual(len(key), 77)
         self.assertEqual(key[:32], shake(b"\x0c" + PRIVATE, 64)[32:])
         self.assertEqual(key[76] >> 5, 0)
+        self.assertEqual(said.decode(), fingerprint(key))
 
     def test_seeds_of_other_sizes_are_1(self):
-        for size, has in ((0, "0"), (31, "31"), (33, "more than 32"), (100_000, "more than 32")):
+        for size, has in ((0, "0 bytes"), (31, "31 bytes"), (33, "at least 33 bytes"), (100_000, "100000 bytes"),
+                          (77, "77 bytes, the size of a public key"), (16, "16 bytes, the size of a master seed")):
             said = self.refused(1, "key", self.put("private", bytes(size)), "key")
-            self.assertIn(f"PRIVATE (private) has {has} bytes; it must have 32\n", said)
+            self.assertIn(f"PRIVATE (private) has {has}; it must have 32\n", said)
 
     def test_endless_seed_is_1(self):
         self.refused(1, "key", "/dev/zero", "key")
@@ -39,6 +44,15 @@ class Sign(Case):
         self.assertEqual(len(package), SIGNATURE + len(LINE))
         self.assertEqual(package[:32], SALT)
         self.assertEqual(package[SIGNATURE:], LINE)
+
+    def test_what_it_says(self):
+        self.package()
+        said = self.done("sign", "private", "line", "out").decode()
+        wanted = "Signed and verified: country XA, class B, serial 12\n" + fingerprint(self.get("key"))
+        self.assertEqual(said, wanted)
+        _, said = self.warned("sign", "private", "line", "-")
+        self.assertEqual(said, wanted)
+        self.done("verify", "key", "out")
 
     def test_examples_come_of_the_seeds_told(self):
         for name, made in (("xa-b.line", LINE), ("xa-c.line", LINE_C), ("key", self.get(self.key())),
@@ -54,21 +68,51 @@ class Sign(Case):
             self.done("verify", self.key(), self.package(line))
 
     def test_wrong_sizes_are_1(self):
-        whole = {"PRIVATE": PRIVATE, "MASTER": MASTER, "SALT": SALT, "LINE": LINE}
-        for role, sizes in (("PRIVATE", (31, 33)), ("MASTER", (15, 17)), ("SALT", (0, 31, 33)), ("LINE", (0, 41, 73))):
+        self.key()
+        whole = {"PRIVATE": PRIVATE, "MASTER": MASTER, "SALT": SALT, "LINE": LINE, "KEY": self.get("key")}
+        for role, sizes in (("PRIVATE", (31, 33)), ("MASTER", (15, 17)), ("SALT", (0, 31, 33)), ("LINE", (0, 41, 73)),
+                            ("KEY", (0, 76, 78))):
             for size in sizes:
-                parts = {**whole, role: (whole[role] * 2)[:size]}
-                words = [self.put(name.lower(), data) for name, data in parts.items()]
-                self.assertIn(f"{role} ({role.lower()}) has ", self.refused(1, "sign", *words, "package"))
+                for name, data in {**whole, role: (whole[role] * 2)[:size]}.items():
+                    self.put(name.lower(), data)
+                self.assertIn(f"{role} ({role.lower()}) has ",
+                              self.refused(1, "sign", "private", "line", "package", *GIVEN))
 
     def test_lines_that_break_a_rule_are_5(self):
         fields = LINE.decode().rstrip("\n").split(",")
         spoils = {0: "GP2", 1: "xa", 2: "C", 3: "0", 4: "99", 5: "55", 6: "1000", 7: "19", 8: "1000", 9: "60001",
                   10: "5001", 11: "0100", 12: "2500", 13: ""}
-        lines = [",".join(fields[:at] + [bad] + fields[at + 1:]) + "\n" for at, bad in spoils.items()]
-        for line in [*lines, LINE.decode()[:-1] + " ", LINE.decode() + "x"]:
-            names = [self.put(*part) for part in (("private", PRIVATE), ("master", MASTER), ("salt", SALT))]
-            self.refused(5, "sign", *names, self.put("line", line.encode()), "package")
+        self.package()
+        for at, bad in spoils.items():
+            line = ",".join(fields[:at] + [bad] + fields[at + 1:]) + "\n"
+            said = self.refused(5, "sign", "private", self.put("line", line.encode()), "out")
+            self.assertIn(f"field {at + 1}, ", said)
+        for line in (LINE.decode()[:-1] + " ", LINE.decode() + "x"):
+            self.refused(5, "sign", "private", self.put("line", line.encode()), "out")
+
+    def test_causes_are_said_in_words(self):
+        """What people meet: how a line is saved, and how it is typed. Also where it makes the line too long or short."""
+        shortest, longest = (b"GP1,XA,A,1,100,50,1001,20,1,20,1,20,-1,20\n",
+                             b"GP1,XA,D,4294967295,1000,50,1500,60000,999,60000,5000,60000,-5000,60000\n")
+        causes = ((lambda line: line[:-1] + b"\r\n", "ends in CR LF"), (lambda line: line[:-1], "line feed at the end is"),
+                  (lambda line: b"\xef\xbb\xbf" + line, "byte order mark (EF BB BF)"),
+                  (lambda line: line.replace(b"XA", b"xa"), 'field 2, country, is "xa", in lower case; it must be'),
+                  (lambda line: line.replace(b",50,", b", 50,"), "field 6, hertz, is \" 50\", with a space or a tab"),
+                  (lambda line: line + line, "bytes stand after the line feed"))
+        self.package()
+        for line in (shortest, LINE, longest):
+            for change, words in causes:
+                bad = change(line)
+                number = 5 if 42 <= len(bad) <= 72 else 1
+                said = self.refused(number, "sign", "private", self.put("line", bad), "out")
+                self.assertIn(words, said)
+
+    def test_greatest_serial_gets_a_warning(self):
+        for serial, warns in ((4294967295, True), (4294967294, False)):
+            self.package(), self.put("line", line_of(serial=serial))
+            ran = self.run_in("sign", "private", "line", "out", "--force")
+            self.assertEqual(ran.returncode, 0)
+            self.assertEqual(b"warning: line: this serial is the greatest" in ran.stderr, warns)
 
 
 # Signs any message, as only somebody with the private seed can, so that a bad line comes under a good signature.
@@ -101,7 +145,9 @@ def flip(data, at, bit=1):
 
 class Verify(Case):
     def test_good_package(self):
-        self.assertIn(b"holds", self.done("verify", self.key(), self.package()))
+        said = self.done("verify", self.key(), self.package()).decode()
+        wanted = "The signature holds, and the line is a profile: country XA, class B, serial 12\n"
+        self.assertEqual(said, wanted + fingerprint(self.get("key")))
 
     def test_wrong_sizes_are_1(self):
         key, package = self.get(self.key()), self.get(self.package())
@@ -109,6 +155,12 @@ class Verify(Case):
             self.refused(1, "verify", self.put("bad", bad), "package")
         for bad in (b"", package[:19193], package + bytes(17)):
             self.refused(1, "verify", "key", self.put("bad", bad))
+
+    def test_exchanged_files_are_named(self):
+        self.package()
+        said = self.refused(1, "verify", "package", "key")
+        self.assertIn("KEY (package) has 19208 bytes, the size of a package; it must have 77\n", said)
+        self.assertIn("PACKAGE (key) has 77 bytes, the size of a public key; it must have 19194 to 19224\n", said)
 
     def test_damage_is_3_or_4(self):
         key, package = self.get(self.key()), self.get(self.package())
@@ -119,20 +171,41 @@ class Verify(Case):
             self.assertIn(ran.returncode, (3, 4))  # what else changes with it is as good as random
 
     def test_other_key_is_4(self):
-        self.refused(4, "verify", self.key(bytes(32)), self.package())
+        self.package()
+        self.refused(4, "verify", self.key(bytes(32)), "package")
 
     def test_signed_line_that_breaks_a_rule_is_5(self):
-        self.refused(5, "verify", self.key(), package_any(self, BAD_LINE))
+        said = self.refused(5, "verify", self.key(), package_any(self, BAD_LINE))
+        self.assertIn("field 6, ", said)
 
 
 class Load(Case):
-    def load(self, line, *device, store="store"):
-        return ["load", store, self.key(), self.package(line), *device]
+    def load(self, line, *device):
+        if "store" not in self.names():
+            self.store()
+        return ["load", "store", self.key(), self.package(line), *device]
 
-    def test_missing_store_is_made(self):
+    def test_store_is_image_and_checksum(self):
+        said = self.done("new-store", "store")
+        self.assertEqual((said, self.get("store")), (b"An empty store.\n", sealed(bytes(IMAGE))))
         self.done(*self.load(LINE, "XA", "B"))
         store = self.get("store")
         self.assertEqual((len(store), store.count(b"\x01XAB\x0c\0\0\0")), (STORE, 1))
+        self.assertEqual(store, sealed(store[:IMAGE]))
+
+    def test_missing_store_is_an_error(self):
+        self.package()
+        said = self.troubled(FILE_TROUBLE, "load", "store", "key", "package", "XA", "B")
+        self.assertIn("store: there is no such store; `gridprofile new-store` makes an empty one", said)
+
+    def test_what_it_says(self):
+        wanted = "Accepted: country XA, class B, serial {}\n{}\n"
+        for serial, before in ((12, "Nothing was stored for this country and class before."),
+                               (13, "It replaces serial 12."), (4294967295, "It replaces serial 13.")):
+            said = self.done(*self.load(line_of(serial=serial), "XA", "B")).decode()
+            self.assertEqual(said, wanted.format(serial, before) + fingerprint(self.get("key")))
+        said = self.done(*self.load(LINE_C, "XA", "C")).decode()
+        self.assertTrue(said.startswith("Accepted: country XA, class C, serial 5\nNothing was stored"), said)
 
     def test_two_classes_of_a_country_stand_side_by_side(self):
         self.done(*self.load(LINE, "XA", "B"))
@@ -157,7 +230,6 @@ class Load(Case):
     def test_other_devices_are_6(self):
         for device in (("XA", "C"), ("XB", "B"), ("AX", "B")):
             self.refused(6, *self.load(LINE, *device))
-        self.assertNotIn("store", self.names())
 
     def test_devices_that_do_not_exist_are_10(self):
         for device in (("xa", "B"), ("X", "B"), ("", "B"), ("XAB", "B"), ("X1", "B"), ("XA", "E"), ("XA", "b"),
@@ -170,8 +242,8 @@ class Load(Case):
     def test_wrong_sizes_are_1(self):
         words = self.load(LINE, "XA", "B")
         self.done(*words)
-        for at, role, least, most in ((1, "STORE", 1024, 1024), (2, "KEY", 77, 77), (3, "PACKAGE", 19194, 19224)):
-            for size in (0, least - 1, most + 1, 200_000):
+        for at, role, least, most in ((1, "STORE", 1056, 1056), (2, "KEY", 77, 77), (3, "PACKAGE", 19194, 19224)):
+            for size in (0, least - 1, most + 1, 1023, 1025, 200_000):
                 bad = self.put("bad", (self.get(words[at]) + bytes(200_000))[:size])
                 said = self.refused(1, *words[:at], bad, *words[at + 1:])
                 self.assertIn(f"{role} (bad) has ", said)
@@ -186,10 +258,10 @@ class Load(Case):
         self.refused(3, *words)
         self.put("package", flip(package, SIGNATURE - 1))
         self.refused(4, *words)
-        self.assertNotIn("store", self.names())
 
     def test_signed_line_that_breaks_a_rule_is_5(self):
-        self.refused(5, "load", "store", self.key(), package_any(self, BAD_LINE), "XA", "B")
+        self.store()
+        self.assertIn("field 6, ", self.refused(5, "load", "store", "key", package_any(self, BAD_LINE), "XA", "B"))
 
     def test_every_refusal_of_a_stocked_store_leaves_it(self):
         self.done(*self.load(LINE, "XA", "B"))
@@ -199,30 +271,85 @@ class Load(Case):
             self.refused(number, "load", "store", "key", self.put("bad", data), "XA", letter)
 
 
-class Lookup(Case):
-    def stocked(self):
-        self.done("load", "store", self.key(), self.package(), "XA", "B")
-        return "store"
+class Damage(Case):
+    """Stores that are damaged, or have no checksum."""
 
+    def damaged(self, *words):
+        """The program says that the store is damaged, and what to do about it, and changes no file."""
+        before = self.look()
+        ran = self.run_in(*words)
+        self.assertEqual(ran.returncode, DAMAGED_STORE, (words, ran.stderr))
+        self.assertIn(b" is damaged: ", ran.stderr)
+        self.assertIn(b"What to do: take a copy", ran.stderr)
+        self.assertEqual(self.look(), before)
+        return ran
+
+    def readers(self, name):
+        return (["load", name, "key", self.package(line_of(serial=99)), "XA", "B"], ["lookup", name, "XA", "B"],
+                ["show", name])
+
+    def test_each_byte_of_a_store_counts(self):
+        whole = self.get(self.store(LINE))
+        for at in range(0, STORE, 7):
+            self.damaged("lookup", self.put("bad", flip(whole, at, 1 << at % 8)), "XA", "B")
+
+    def test_damaged_store_is_refused(self):
+        whole = self.get(self.store(LINE))
+        for words in self.readers(self.put("bad", flip(whole, 20))):
+            self.assertIn(b"its checksum does not fit", self.damaged(*words).stderr)
+
+    def test_show_prints_what_it_can(self):
+        whole = self.get(self.store(LINE, LINE_C))
+        shown = self.damaged("show", self.put("bad", flip(whole, STORE - 1))).stdout
+        self.assertIn(WORDS.encode(), shown)
+
+    def test_image_without_checksum_gets_a_warning(self):
+        image = self.get(self.store(LINE))[:IMAGE]
+        load, lookup, show = self.readers("bare")
+        self.put("bare", image)
+        for words, printed in ((lookup, LINE), (show, b"A store with 1 of 16 profiles.\n" + WORDS.encode())):
+            shown, said = self.warned(*words)
+            self.assertEqual(shown, printed)
+            self.assertIn("bare: this store has no checksum", said)
+        self.assertIn("no checksum", self.warned(*load)[1])
+        self.assertEqual(self.done(*lookup), line_of(serial=99))
+        self.assertEqual(self.get("bare"), sealed(self.get("bare")[:IMAGE]))
+
+    def test_profile_that_breaks_a_rule_is_damage(self):
+        """With and without a checksum; a lookup of a profile that is whole still answers."""
+        image = self.get(self.store(LINE))[:IMAGE]
+        slot = image[:64] if image[0] else image[-64:]
+        other = slot.replace(b"XAB", b"XBB").replace(b"\x32\0\0\0", b"\x33\0\0\0")
+        image = slot + other + bytes(IMAGE - 128)
+        for data in (image, sealed(image)):
+            self.put("bad", data)
+            said = self.refused(5, "lookup", "bad", "XB", "B")
+            self.assertIn("the stored profile breaks a rule: the store is damaged", said)
+            self.assertNotIn("correct the line", said)
+            self.assertEqual(self.run_in("lookup", "bad", "XA", "B").stdout, LINE)
+            load, _, show = self.readers("bad")
+            self.assertIn(b"the profile in slot 2 breaks a rule", self.damaged(*load).stderr)
+            self.assertIn(b"slot 2: damaged, breaks a rule\n", self.damaged(*show).stdout)
+
+
+class Lookup(Case):
     def test_stored_line(self):
-        self.assertEqual(self.done("lookup", self.stocked(), "XA", "B"), LINE)
+        self.assertEqual(self.done("lookup", self.store(LINE), "XA", "B"), LINE)
 
     def test_nothing_stored_is_9(self):
+        self.store(LINE)
         for device in (("XA", "C"), ("XB", "B")):
-            self.refused(9, "lookup", self.stocked() if "store" not in self.names() else "store", *device)
-        self.refused(9, "lookup", self.put("empty", bytes(STORE)), "XA", "B")
+            self.refused(9, "lookup", "store", *device)
+        self.refused(9, "lookup", self.store(name="empty"), "XA", "B")
 
     def test_devices_that_do_not_exist_are_10(self):
         for device in (("Xa", "B"), ("XAA", "B"), ("XA", "F"), ("XA", "")):
-            self.refused(10, "lookup", self.put("empty", bytes(STORE)), *device)
+            self.refused(10, "lookup", self.store(name="empty"), *device)
 
     def test_wrong_sizes_are_1(self):
-        for size in (0, 1023, 1025):
-            self.refused(1, "lookup", self.put("bad", bytes(size)), "XA", "B")
-
-    def test_damaged_store_is_5(self):
-        damaged = self.get(self.stocked()).replace(b"\x32\0\0\0", b"\x33\0\0\0")
-        self.refused(5, "lookup", self.put("bad", damaged), "XA", "B")
+        for size in (0, 1023, 1025, 1055, 1057):
+            said = self.refused(1, "lookup", self.put("bad", bytes(size)), "XA", "B")
+            self.assertIn("it must have 1056 or 1024\n", said)
 
 
 WORDS = """country XA, class B, serial 12
@@ -242,16 +369,18 @@ class Show(Case):
     def test_line(self):
         self.assertEqual(self.done("show", self.put("line", LINE)).decode(), "A line, not signed.\n" + WORDS)
 
+    def test_key(self):
+        shown = self.done("show", self.key()).decode()
+        self.assertEqual(shown, "A public key.\n" + fingerprint(self.get("key")))
+        self.assertRegex(shown, r"\nkey fingerprint:( [0-9a-f]{4}){8}\n$")
+
     def test_store(self):
-        for line, letter in ((LINE, "B"), (LINE_C, "C")):
-            self.done("load", "store", self.key(), self.package(line), "XA", letter)
-        shown = self.done("show", "store").decode()
+        shown = self.done("show", self.store(LINE, LINE_C)).decode()
         self.assertTrue(shown.startswith("A store with 2 of 16 profiles.\n"), shown)
         self.assertIn(WORDS, shown)
         self.assertIn("country XA, class C, serial 5\n  nominal         400 V, 50 Hz\n", shown)
         self.assertIn("  under-voltage   85.0 % of nominal (340.000 V), after 1500 ms\n", shown)
-        empty = self.done("show", self.put("empty", bytes(STORE)))
-        self.assertEqual(empty, b"A store with 0 of 16 profiles.\n")
+        self.assertEqual(self.done("show", self.store(name="empty")), b"A store with 0 of 16 profiles.\n")
 
     def test_every_digit_is_shown(self):
         line = b"GP1,QZ,D,4294967295,1000,60,1499,60000,7,20,1,59999,-4999,33\n"
@@ -265,16 +394,24 @@ class Show(Case):
     def test_other_sizes_are_1(self):
         for size in (0, 41, 73, 1023, 1025, 19193, 19225):
             self.assertIn("bad has the size of no line", self.refused(1, "show", self.put("bad", bytes(size))))
+        for size, name in ((16, "a master seed"), (32, "a private seed or a salt")):
+            self.assertIn(f"has the size of {name}, of which nothing is shown",
+                          self.refused(1, "show", self.put("bad", bytes(size))))
 
     def test_what_breaks_a_rule_is_5(self):
         package = self.get(self.package())[:SIGNATURE] + BAD_LINE
-        self.done("load", "store", self.key(), self.package(), "XA", "B")
-        store = self.get("store").replace(b"\x32\0\0\0", b"\x33\0\0\0")
-        for data in (BAD_LINE, package, store):
+        for data in (BAD_LINE, package):
             ran = self.run_in("show", self.put("bad", data))
             self.assertEqual(ran.returncode, 5)
             self.assertIn(b"refused with 5: ", ran.stderr)
+            self.assertIn(b"field 6, ", ran.stderr)
             self.assertNotIn(b"55", ran.stdout)
+
+    def test_line_of_a_wrong_length_is_told(self):
+        for line in (LINE * 2, LINE[:30]):
+            ran = self.run_in("show", self.put("bad", line))
+            self.assertEqual((ran.returncode, ran.stdout), (1, b"A line, not signed.\n"))
+            self.assertIn(b"refused with 1: ", ran.stderr)
 
 
 def listing(text):
@@ -329,27 +466,75 @@ class Preview(Case):
 
 
 class Usage(Case):
-    COUNTS = {"key": (2, 2), "sign": (5, 5), "verify": (2, 2), "load": (5, 5), "lookup": (3, 3), "show": (1, 1),
-              "preview": (0, 1)}
+    COUNTS = {"new-key": (2, 2), "key": (2, 2), "sign": (3, 3), "verify": (2, 2), "new-store": (1, 1), "load": (5, 5),
+              "lookup": (3, 3), "show": (1, 1), "preview": (0, 1)}
 
     def test_help(self):
         shown = self.done("help").decode()
-        for words in (["--help"], ["-h"], ["load", "--help"], ["sign", "a", "b", "c", "--help"]):
+        for words in (["--help"], ["-h"], ["help", "--help"], ["help", "-h"]):
             self.assertEqual(self.done(*words).decode(), shown)
         for name in self.COUNTS:
             self.assertRegex(shown, rf"(?m)^  {name} ")
         for number in range(1, 11):
             self.assertRegex(shown, rf"(?m)^  {number:2}  \w")
-        self.assertIn("64 wrong usage; 74 ", shown)
+        for number in (WRONG_USAGE, DAMAGED_STORE, SELF_CHECK_FAILED, NO_RANDOM_BYTES, FILE_TROUBLE):
+            self.assertRegex(shown, rf"[;:]\s{number} ")
+
+    def test_help_of_a_command(self):
+        for name in self.COUNTS:
+            shown = self.done("help", name).decode()
+            self.assertTrue(shown.startswith(f"usage: gridprofile {name} "), shown)
+            for words in ([name, "--help"], [name, "-h"], [name, "a", "b", "--help"], [name, "--force", "-h"]):
+                self.assertEqual(self.done(*words).decode(), shown)
+
+    def test_help_of_the_line(self):
+        shown = self.done("help", "line").decode()
+        example = re.search(r"^  (GP1,.*\n)", shown, re.M).group(1)
+        self.done("show", self.put("line", example.encode()))
+        self.assertEqual(re.findall(r"^ +(\d+) [a-z]", shown, re.M), [str(at) for at in range(1, 15)])
+
+    def test_version(self):
+        with open(os.path.join(ROOT, "include/gridprofile.h"), encoding="utf-8") as file:
+            version = re.search(r'GRIDPROFILE_VERSION "(.*)"', file.read()).group(1)
+        self.assertEqual(self.done("--version").decode(), f"gridprofile {version}\n")
+
+    def wrong(self, *words):
+        """Wrong usage is told in three lines: what is wrong, what is expected, and where there is more."""
+        said = self.troubled(WRONG_USAGE, *words).splitlines()
+        self.assertEqual(len(said), 3, said)
+        self.assertTrue(said[1].startswith("usage: gridprofile "), said)
+        self.assertRegex(said[2], "^`gridprofile help.*` says more.$")
+        return said
 
     def test_wrong_usage(self):
-        for words in ([], [""], ["nothing"], ["Key"], ["--version"], ["keys", "a", "b"]):
-            self.assertIn("usage: gridprofile COMMAND", self.troubled(WRONG_USAGE, *words))
+        for words in ([], [""], ["nothing"], ["Key"], ["keys", "a", "b"], ["help", "nothing"], ["--force"]):
+            said = self.wrong(*words)
+            for name in self.COUNTS:
+                self.assertIn(f" {name}", said[1])
 
     def test_wrong_counts(self):
         for name, (least, most) in self.COUNTS.items():
-            for count in {max(least - 1, 0), most + 1, 0} - set(range(least, most + 1)):
-                self.assertIn(f"gridprofile {name}: wrong number", self.troubled(WRONG_USAGE, name, *["x"] * count))
+            for count in {max(least - 1, 0), most + 1, 0, 9} - set(range(least, most + 1)):
+                said = self.wrong(name, *["x"] * count)
+                self.assertIn(f"gridprofile {name}: ", said[0])
+                self.assertTrue(said[1].startswith(f"usage: gridprofile {name} "), said)
+
+    def test_wrong_options(self):
+        self.package()
+        for words in (["show", "--force", "key"], ["key", "private", "out", "--forc"], ["key", "private", "out", "-key"],
+                      ["key", "private", "out", "--key", "key"], ["lookup", "store", "XA", "B", "--wait", "1"],
+                      ["key", "private", "out", "--wait"], ["key", "private", "out", "--wait", "x"],
+                      ["key", "private", "out", "--wait", "-1"], ["key", "private", "out", "--wait", ""],
+                      ["key", "private", "out", "--wait", "86401"], ["key", "private", "out", "--wait", "9" * 30],
+                      ["sign", "private", "line", "out", "--key"], ["sign", "private", "line", "out", "-x"],
+                      ["sign", "private", "line", "out", "--key", "key", "--key", "key"]):
+            self.wrong(*words)
+
+    def test_options_stand_anywhere(self):
+        self.put("private", PRIVATE), self.put("--force", b"x" * 90)
+        self.done("key", "--force", "--wait", "3", "private", "--", "--force")
+        self.assertEqual(len(self.get("--force")), 77)
+        self.troubled(FILE_TROUBLE, "show", "--", "--help")
 
 
 def readme_line(start):
@@ -361,22 +546,63 @@ def readme_line(start):
     return found[0]
 
 
+def readme_blocks():
+    """The blocks of commands, in their order; the last block of the README is a list of places."""
+    with open(os.path.join(ROOT, "README.md"), encoding="utf-8") as file:
+        text = file.read().split("## Where things are")[0]
+    return [re.sub("(?m)^    ", "", block) for block in re.findall(r"\n\n((?:    .*\n)+)", text)]
+
+
 class Readme(Case):
-    def test_commands(self):
-        """The block of commands, as a reader pastes it; what it ends with is the example's line."""
-        with open(os.path.join(ROOT, "README.md"), encoding="utf-8") as file:
-            block = re.search(r"^    PATH=.*\n(?:    .*\n)+", file.read(), re.M).group()
-        os.makedirs(self.path("target/cli"))
-        os.symlink(PROGRAM, self.path("target/cli/gridprofile"))
-        os.symlink(os.path.join(ROOT, "examples"), self.path("examples"))
-        ran = subprocess.run(["sh", "-e"], input=block.encode(), cwd=self.folder, capture_output=True, check=False,
-                             env={**os.environ, "TMPDIR": self.folder})
-        self.assertEqual((ran.returncode, ran.stdout, ran.stderr), (0, LINE, b""))
+    def test_blocks_one_after_the_other(self):
+        """As a reader pastes them into one shell, in a folder with what the repository has. The archive is there
+        already, so that the prover stands aside: what it does is the gate's first part."""
+        for name in ("Makefile", "include", "examples", "tools", "crates.txt", "crates"):
+            os.symlink(os.path.join(ROOT, name), self.path(name))
+        os.makedirs(self.path("target/staticlib")), os.mkdir(self.path("bin"))
+        shutil.copy2(ARCHIVE, self.path("target/staticlib"))
+        self.put("bin/rt", b"#!/bin/sh\n")
+        os.chmod(self.path("bin/rt"), 0o755)
+        blocks = readme_blocks()
+        self.assertGreaterEqual(len(blocks), 3)
+        ran = subprocess.run(["sh", "-e"], input="\n".join(blocks).encode(), cwd=self.folder, capture_output=True,
+                             check=False, env={**os.environ, "TMPDIR": self.folder,
+                                               "PATH": self.path("bin") + ":" + os.environ["PATH"]})
+        self.assertEqual((ran.returncode, ran.stderr), (0, b""), ran.stdout)
+        for told in (b"\nDone: ", b"\n" + LINE, b"load answers 0\n"):
+            self.assertIn(told, ran.stdout)
 
     def test_every_command_is_in_the_table(self):
         with open(os.path.join(ROOT, "README.md"), encoding="utf-8") as file:
-            named = re.findall(r"^\| `([a-z]+)(?: [A-Z\[\] ]+)?` \|", file.read(), re.M)
+            named = re.findall(r"^\| `([a-z-]+) [A-Z\[\] ]+` \|", file.read(), re.M)
         self.assertEqual(sorted(named), sorted(Usage.COUNTS))
+
+
+class Formats(Case):
+    def test_worked_bytes_are_those_of_the_examples(self):
+        with open(os.path.join(ROOT, "docs/FORMATS.md"), encoding="utf-8") as file:
+            text = file.read()
+        hexadecimal = "".join(re.findall(r"\b[0-9A-F]{2}(?: [0-9A-F]{2}){7,}", text)).replace(" ", "")
+        key, package = self.get(self.key()), self.get(self.package())
+        wanted = {"public seed": key[:32], "packed syndrome": key[32:], "digest of the key": shake(key, 32),
+                  "c": package[32:64], "h": package[64:96], "seed of round 1": package[96:112],
+                  "c0(1)": package[112:144], "last bytes": package[19120:SIGNATURE],
+                  "digest of the signature": shake(package[:SIGNATURE], 32), "digest of the package": shake(package, 32)}
+        self.assertEqual([name for name, data in wanted.items() if data.hex().upper() not in hexadecimal], [])
+        self.assertIn("\n    " + fingerprint(key).split(": ")[1], text)
+
+    def test_reproducing_them(self):
+        """The commands of the document, as a reader pastes them."""
+        with open(os.path.join(ROOT, "docs/FORMATS.md"), encoding="utf-8") as file:
+            block = re.search(r"\n((?:    .*\n)+)", file.read().split("## Reproducing the worked bytes")[1]).group(1)
+        os.makedirs(self.path("target/cli"))
+        os.symlink(PROGRAM, self.path("target/cli/gridprofile"))
+        os.symlink(os.path.join(ROOT, "examples"), self.path("examples"))
+        commands = "\n".join(line for line in block.splitlines() if "openssl" not in line)
+        ran = subprocess.run(["sh", "-e"], input=commands.encode(), cwd=self.folder, capture_output=True, check=False)
+        self.assertEqual((ran.returncode, ran.stderr), (0, b""))
+        with open(os.path.join(ROOT, "examples/xa-b.package"), "rb") as file:
+            self.assertEqual(self.get("package"), file.read())
 
 
 class Firmware(Case):
@@ -465,7 +691,8 @@ class Result(unittest.TestResult):
 def main():
     load = unittest.defaultTestLoader.loadTestsFromModule
     result = Result()
-    unittest.TestSuite([load(sys.modules[__name__]), load(test_cli_files), load(test_cli_lines)]).run(result)
+    modules = (sys.modules[__name__], test_cli_files, test_cli_lines, test_cli_safe)
+    unittest.TestSuite([load(module) for module in modules]).run(result)
     bad = len(result.failures) + len(result.errors)
     print(f"program: {result.testsRun - bad} ok, {bad} failed")
     sys.exit(1 if bad or result.testsRun == 0 else 0)

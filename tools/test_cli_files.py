@@ -6,9 +6,10 @@ import shutil
 import stat
 import subprocess
 import time
+import unittest
 
-from cli_case import (FILE_TROUBLE, LINE, MASTER, PRIVATE, PROGRAM, SALT, STORE, WRONG_USAGE, Case, line_of,
-                      shake)
+from cli_case import (FILE_TROUBLE, GIVEN, IMAGE, LINE, MASTER, PRIVATE, PROGRAM, SALT, WRONG_USAGE, Case, line_of,
+                      sealed, shake)
 
 NOBODY = 65534
 
@@ -23,58 +24,81 @@ def unprivileged():
     return {"user": NOBODY, "group": NOBODY, "extra_groups": []} if os.getuid() == 0 else {}
 
 
+EMPTY = sealed(bytes(IMAGE))
+SIGN = ("sign", "private", "line", "-", *GIVEN)
+
+
 class Streams(Case):
     def test_key_from_stream_to_stream(self):
-        self.assertEqual(self.done("key", "-", "-", stdin=PRIVATE), self.get(self.key()))
+        self.assertEqual(self.warned("key", "-", "-", stdin=PRIVATE)[0], self.get(self.key()))
 
     def test_each_input_of_sign_from_the_stream(self):
         wanted = self.get(self.package())
-        words = ["private", "master", "salt", "line"]
-        for at, data in enumerate((PRIVATE, MASTER, SALT, LINE)):
-            self.assertEqual(self.done("sign", *words[:at], "-", *words[at + 1:], "-", stdin=data), wanted)
+        for name in ("private", "line", "key", "master", "salt"):
+            words = ["-" if word == name else word for word in SIGN]
+            self.assertEqual(self.warned(*words, stdin=self.get(name))[0], wanted)
 
     def test_each_input_of_load_from_the_stream(self):
         key, package = self.get(self.key()), self.get(self.package())
+        self.store(name="one"), self.store(name="two")
         self.done("load", "one", "-", "package", "XA", "B", stdin=key)
         self.done("load", "two", "key", "-", "XA", "B", stdin=package)
-        piped = self.done("load", "-", "key", "package", "XA", "B", stdin=bytes(STORE))
+        piped, said = self.warned("load", "-", "key", "package", "XA", "B", stdin=EMPTY)
+        self.assertIn("Accepted: country XA, class B, serial 12\n", said)
         self.assertEqual({self.get("one"), self.get("two"), piped}, {piped})
         self.assertEqual(self.done("lookup", "-", "XA", "B", stdin=piped), LINE)
         self.assertIn(b"A store with 1 of 16", self.done("show", "-", stdin=piped))
         self.assertIn(b"holds", self.done("verify", "key", "-", stdin=package))
 
+    def test_new_store_to_the_stream(self):
+        self.assertEqual(self.warned("new-store", "-")[0], EMPTY)
+
     def test_refusals_write_nothing_to_the_stream(self):
         self.key(), self.package()
         self.refused(1, "load", "-", "key", "package", "XA", "B", stdin=b"")
-        self.refused(6, "load", "-", "key", "package", "XA", "C", stdin=bytes(STORE))
+        self.refused(6, "load", "-", "key", "package", "XA", "C", stdin=EMPTY)
         self.refused(1, "key", "-", "-", stdin=b"short")
-        self.refused(5, "sign", "private", "master", "salt", "-", "-", stdin=b"x" * 50)
+        self.refused(5, "sign", "private", "-", "-", stdin=b"x" * 50)
 
     def test_two_inputs_cannot_both_be_the_stream(self):
         self.key(), self.package()
         self.troubled(WRONG_USAGE, "verify", "-", "-", stdin=self.get("key"))
-        self.troubled(WRONG_USAGE, "load", "-", "-", "package", "XA", "B", stdin=bytes(STORE))
-        self.troubled(WRONG_USAGE, "sign", "-", "-", "salt", "line", "out", stdin=PRIVATE)
+        self.troubled(WRONG_USAGE, "load", "-", "-", "package", "XA", "B", stdin=EMPTY)
+        self.troubled(WRONG_USAGE, "sign", "-", "-", "out", stdin=PRIVATE)
+        self.troubled(WRONG_USAGE, "sign", "-", "line", "out", "--key", "-", stdin=PRIVATE)
 
     def test_output_that_cannot_be_written(self):
-        self.done("load", "store", self.key(), self.package(), "XA", "B")
+        self.store(LINE)
         lines = self.put("lines", LINE)
         with open("/dev/full", "wb") as full:
-            for words in (["key", "private", "-"], ["lookup", "store", "XA", "B"], ["show", "package"],
-                          ["preview", lines], ["verify", "key", "package"],
-                          ["load", "-", "key", "package", "XA", "B"], ["help"]):
-                self.troubled(FILE_TROUBLE, *words, stdin=bytes(STORE), stdout=full)
+            for words in (["key", "private", "-"], SIGN, ["new-store", "-"], ["lookup", "store", "XA", "B"],
+                          ["show", "package"], ["preview", lines], ["verify", "key", "package"],
+                          ["load", "-", "key", "package", "XA", "B"], ["new-key", "fresh", "-"], ["help"],
+                          ["--version"], ["help", "sign"]):
+                self.troubled(FILE_TROUBLE, *words, stdin=EMPTY, stdout=full)
+
+    def test_report_that_cannot_be_written(self):
+        """The file is what was asked for, and it is written."""
+        self.key(), self.package(), self.store()
+        with open("/dev/full", "wb") as full:
+            for at, words in enumerate((["key", "private"], ["sign", "private", "line"], ["new-key", "fresh"],
+                                        ["new-store"])):
+                _, said = self.warned(*words, f"out{at}", stdout=full)
+                self.assertIn("what was asked for is done", said)
+                self.assertNotEqual(self.get(f"out{at}"), b"")
+            self.warned("load", "store", "key", "package", "XA", "B", stdout=full)
+        self.assertEqual(self.done("lookup", "store", "XA", "B"), LINE)
 
     def test_reader_that_goes_away(self):
         self.key(), self.package()
-        for words in (["sign", "private", "master", "salt", "line", "-"], ["show", "package"]):
+        for words in (SIGN, ["show", "package"]):
             reading, writing = os.pipe()
             os.close(reading)
             with os.fdopen(writing, "wb") as gone:
                 self.troubled(FILE_TROUBLE, *words, stdout=gone)
 
     def test_closed_streams_are_not_taken_for_files(self):
-        self.key(), self.package()
+        self.key(), self.package(), self.store()
         for stream, words in ((0, ["key", "-", "out"]), (1, ["key", "private", "-"]), (1, ["show", "package"])):
             self.troubled(FILE_TROUBLE, *words, stdin=None, preexec_fn=lambda at=stream: os.close(at))
         for letter, status in (("C", 6), ("B", 0)):
@@ -82,26 +106,31 @@ class Streams(Case):
             ran = self.run_in(*words, stdin=None, preexec_fn=lambda: os.closerange(0, 3))
             self.assertEqual(ran.returncode, status)
         self.assertEqual(self.done("lookup", "store", "XA", "B"), LINE)
+        for closed in ((0,), (1,), (2,), (0, 1), (1, 2), (0, 2)):
+            name = "fresh" + "".join(map(str, closed))
+            ran = self.run_in("new-key", name, name + ".key", stdin=None,
+                              preexec_fn=lambda at=closed: [os.close(stream) for stream in at])
+            self.assertEqual((ran.returncode, len(self.get(name)), len(self.get(name + ".key"))), (0, 32, 77))
 
 
 class Inputs(Case):
     def every_input(self):
         """Every command with a place for each input."""
-        self.key(), self.package()
-        self.put("store", bytes(STORE))
-        whole = (["key", "private", "-"], ["sign", "private", "master", "salt", "line", "-"],
-                 ["verify", "key", "package"], ["load", "store", "key", "package", "XA", "B"],
-                 ["lookup", "store", "XA", "B"], ["show", "package"], ["preview", "line"])
+        self.package(), self.store()
+        whole = (["key", "private", "-"], SIGN, ["verify", "key", "package"],
+                 ["load", "store", "key", "package", "XA", "B"], ["lookup", "store", "XA", "B"], ["show", "package"],
+                 ["preview", "line"])
         for words in whole:
             for at, word in enumerate(words[1:], 1):
                 if os.path.exists(self.path(word)):
-                    yield words, at
+                    yield list(words), at
 
     def test_missing_files(self):
         for words, at in self.every_input():
-            if (words[0], at) != ("load", 1):
-                said = self.troubled(FILE_TROUBLE, *words[:at], "missing", *words[at + 1:])
-                self.assertIn("cannot read missing: No such file", said)
+            said = self.troubled(FILE_TROUBLE, *words[:at], "missing", *words[at + 1:])
+            told = "cannot load into missing: there is no such store" if (words[0], at) == ("load", 1) else \
+                "cannot read missing: No such file"
+            self.assertIn(told, said)
 
     def test_directories(self):
         os.mkdir(self.path("folder"))
@@ -113,8 +142,10 @@ class Inputs(Case):
         program = shutil.copy(PROGRAM, self.path("program"))
         shut = self.put("shut", bytes(100))
         cases = list(self.every_input())
-        for name, mode in ((shut, 0), ("store", 0o666), ("", 0o777)):
+        for name, mode in ((shut, 0), ("store", 0o666), ("private", 0o644), ("master", 0o644), ("", 0o777)):
             os.chmod(self.path(name), mode)
+        if os.getuid() == 0:
+            os.chown(self.path("store"), NOBODY, NOBODY)
         for words, at in cases:
             words = [program, *words[:at], shut, *words[at + 1:]]
             ran = subprocess.run(words, cwd=self.folder, capture_output=True, check=False, **unprivileged())
@@ -126,37 +157,38 @@ class Outputs(Case):
     """Files are written whole or not at all."""
 
     def writers(self, name):
+        """Every command that writes a file; `load` changes one that must be there."""
         self.key(), self.package()
-        return (["key", "private", name], ["sign", "private", "master", "salt", "line", name],
-                ["load", name, "key", "package", "XA", "B"])
+        return (["new-key", "fresh", name], ["key", "private", name], ["sign", "private", "line", name],
+                ["new-store", name], ["load", name, "key", "package", "XA", "B"])
 
     def test_nothing_but_the_file_is_left(self):
         for words in self.writers("out"):
-            before = self.names()
+            if words[0] == "load":
+                self.store(name="out")
+            before = set(self.names())
             self.done(*words)
-            self.assertEqual(self.names(), sorted([*before, "out"]))
+            made = {"new-key": {"out", "fresh"}}.get(words[0], {"out"})
+            self.assertEqual(set(self.names()), before | made)
             os.remove(self.path("out"))
 
     def test_old_files_are_replaced_whole(self):
-        for words in self.writers("out")[:2]:
+        for words in self.writers("out")[:4]:
             self.put("out", b"old" * 30_000)
-            self.done(*words)
-            self.assertIn(len(self.get("out")), (77, 19152 + len(LINE)))
+            self.done(*words, "--force")
+            self.assertIn(len(self.get("out")), (77, 19152 + len(LINE), 1056))
 
     def test_full_disk_leaves_no_file(self):
-        for words in self.writers("out"):
+        for words in self.writers("out")[:4]:
             self.assertIn("File too large", self.troubled(FILE_TROUBLE, *words, preexec_fn=no_file_may_grow))
-        self.done("load", "out", "key", "package", "XA", "B")
+        self.store(LINE)
         newer = self.package(line_of(serial=13))
-        self.troubled(FILE_TROUBLE, "load", "out", "key", newer, "XA", "B", preexec_fn=no_file_may_grow)
+        self.troubled(FILE_TROUBLE, "load", "store", "key", newer, "XA", "B", preexec_fn=no_file_may_grow)
 
     def test_missing_folder(self):
-        for words in self.writers("missing/out"):
-            self.troubled(FILE_TROUBLE, *words)
-        for words in self.writers("key/out"):
-            self.troubled(FILE_TROUBLE, *words)
-        for words in self.writers(""):
-            self.troubled(FILE_TROUBLE, *words)
+        for name in ("missing/out", "key/out", ""):
+            for words in self.writers(name):
+                self.troubled(FILE_TROUBLE, *words)
 
     def test_only_plain_files_are_replaced(self):
         os.mkdir(self.path("folder"))
@@ -164,13 +196,14 @@ class Outputs(Case):
         os.symlink("nothing", self.path("dangling"))
         for name in ("folder", "pipe", "dangling", "/dev/null", "/dev/full"):
             for words in self.writers(name):
-                self.troubled(FILE_TROUBLE, *words)
+                options = [] if words[0] == "load" else ["--force"]
+                self.troubled(FILE_TROUBLE, *words, *options)
         self.assertTrue(stat.S_ISCHR(os.stat("/dev/null").st_mode))
 
     def test_links_are_followed(self):
-        self.key(), self.package()
+        self.package()
         os.mkdir(self.path("far"))
-        self.put("far/store", bytes(STORE))
+        self.put("far/store", EMPTY)
         os.symlink("far/store", self.path("link"))
         self.done("load", "link", "key", "package", "XA", "B")
         self.assertTrue(os.path.islink(self.path("link")))
@@ -181,9 +214,9 @@ class Outputs(Case):
         os.symlink("private", self.path("link"))
         os.link(self.path("master"), self.path("hard"))
         for words in (["key", "private", "private"], ["key", "private", "link"], ["key", "link", "./private"]):
-            self.assertIn("also an input", self.troubled(WRONG_USAGE, *words))
-        for name in ("private", "master", "salt", "line", "link", "hard"):
-            words = ["sign", "private", "master", "salt", "line", name]
+            self.assertIn("also an input", self.troubled(WRONG_USAGE, *words, "--force"))
+        for name in ("private", "master", "salt", "line", "key", "link", "hard"):
+            words = ["sign", "private", "line", name, *GIVEN, "--force"]
             self.assertIn("also an input", self.troubled(WRONG_USAGE, *words))
 
     def test_folder_and_files_that_may_not_be_written(self):
@@ -191,12 +224,15 @@ class Outputs(Case):
         program = shutil.copy(PROGRAM, self.path("program"))
         os.mkdir(self.path("shut"))
         os.chmod(self.path("shut"), 0o555)
-        cases = list(self.writers("shut/out"))
+        cases = [words for words in self.writers("shut/out") if words[0] not in ("load", "new-key")]
         os.mkdir(self.path("open"))
-        self.put("open/locked", bytes(STORE))
+        self.put("open/locked", EMPTY)
         os.chmod(self.path("open"), 0o777)
         os.chmod(self.path("open/locked"), 0o444)
-        cases.extend(self.writers("open/locked"))
+        os.chmod(self.path("private"), 0o644)
+        cases.append(["load", "open/locked", "key", "package", "XA", "B"])
+        cases.append(["new-store", "open/locked", "--force"])
+        cases.append(["new-key", "shut/fresh", "open/key"])
         for words in cases:
             before = self.look()
             ran = subprocess.run([program, *words], cwd=self.folder, capture_output=True, check=False, **unprivileged())
@@ -204,27 +240,85 @@ class Outputs(Case):
             self.assertIn(b"Permission denied", ran.stderr)
             self.assertEqual(self.look(), before)
             self.assertEqual((os.listdir(self.path("shut")), os.listdir(self.path("open"))), ([], ["locked"]))
-            self.assertEqual(self.get("open/locked"), bytes(STORE))
+            self.assertEqual(self.get("open/locked"), EMPTY)
 
-    def test_permissions(self):
+    def test_folder_that_cannot_be_read(self):
+        """It cannot be locked then: only a load, which changes what is there, must have the lock."""
+        program = shutil.copy(PROGRAM, self.path("program"))
+        self.package()
+        os.chmod(self.path("private"), 0o644)
+        os.mkdir(self.path("drop"))
+        self.put("drop/store", EMPTY)
+        if os.getuid() == 0:
+            os.chown(self.path("drop/store"), NOBODY, NOBODY)
+        os.chmod(self.path("drop"), 0o333)
+        for status, words in ((0, ["key", "private", "drop/key"]), (0, ["sign", "private", "line", "drop/package"]),
+                              (FILE_TROUBLE, ["load", "drop/store", "key", "package", "XA", "B"])):
+            ran = subprocess.run([program, *words], cwd=self.folder, capture_output=True, check=False, **unprivileged())
+            self.assertEqual(ran.returncode, status, (words, ran.stderr))
+        self.assertIn(b"cannot lock the folder of drop/store: Permission denied", ran.stderr)
+        os.chmod(self.path("drop"), 0o755)
+        self.assertEqual(sorted(os.listdir(self.path("drop"))), ["key", "package", "store"])
+
+    def test_permissions_of_new_files(self):
         for mask, wanted in ((0o022, 0o644), (0, 0o644), (0o077, 0o600)):
-            for words in self.writers("out"):
+            for words in self.writers("out")[:4]:
                 self.done(*words, preexec_fn=lambda bits=mask: os.umask(bits))
                 self.assertEqual(stat.S_IMODE(os.stat(self.path("out")).st_mode), wanted)
                 os.remove(self.path("out"))
-        self.put("out", b"")
-        os.chmod(self.path("out"), 0o640)
-        self.done("key", "private", "out")
-        self.assertEqual(stat.S_IMODE(os.stat(self.path("out")).st_mode), 0o640)
+            self.assertEqual(stat.S_IMODE(os.stat(self.path("fresh")).st_mode), 0o600)
+            os.remove(self.path("fresh"))
+
+    def replaced(self):
+        """Every command that replaces a file, over one that has this owner and these permissions."""
+        for words in self.writers("out"):
+            if words[0] == "load":
+                self.store(name="out")
+            else:
+                self.put("out", b"")
+                words.append("--force")
+            yield words
+
+    def test_permissions_of_replaced_files(self):
+        for mode in (0o640, 0o600, 0o666, 0o664):
+            for words in self.replaced():
+                os.chmod(self.path("out"), mode)
+                self.done(*words)
+                self.assertEqual(stat.S_IMODE(os.stat(self.path("out")).st_mode), mode)
+                if words[0] == "new-key":
+                    os.remove(self.path("fresh"))
+
+    @unittest.skipUnless(os.getuid() == 0, "only root can give files away")
+    def test_owner_of_replaced_files(self):
+        for words in self.replaced():
+            os.chown(self.path("out"), NOBODY, NOBODY - 1)
+            os.chmod(self.path("out"), 0o640)
+            self.done(*words)
+            found = os.stat(self.path("out"))
+            self.assertEqual((found.st_uid, found.st_gid, stat.S_IMODE(found.st_mode)), (NOBODY, NOBODY - 1, 0o640))
+
+    @unittest.skipUnless(os.getuid() == 0, "only root can run as somebody else")
+    def test_owner_that_cannot_be_kept(self):
+        """Somebody who may write the store, but whose it is not: it stays as it is."""
+        program = shutil.copy(PROGRAM, self.path("program"))
+        self.package(), self.store()
+        os.chmod(self.path(""), 0o777)
+        os.chmod(self.path("store"), 0o666)
+        before = self.look()
+        ran = subprocess.run([program, "load", "store", "key", "package", "XA", "B"], cwd=self.folder,
+                             capture_output=True, check=False, **unprivileged())
+        self.assertEqual((ran.returncode, ran.stdout), (FILE_TROUBLE, b""))
+        self.assertIn(b"cannot write store: its owner cannot be kept: Operation not permitted", ran.stderr)
+        self.assertEqual(self.look(), before)
 
 
 class Together(Case):
     def test_loads_at_the_same_time_lose_nothing(self):
         pairs = [("X" + letter, of) for letter in "ABCD" for of in "ABCD"]
-        self.key()
+        self.store()
         names = {pair: self.package(line_of(*pair), "-".join(pair)) for pair in pairs}
         words = [[PROGRAM, "load", "store", "key", name, *pair] for pair, name in names.items()]
-        runs = [subprocess.Popen(one, cwd=self.folder) for one in words]
+        runs = [subprocess.Popen(one, cwd=self.folder, stdout=subprocess.DEVNULL) for one in words]
         self.assertEqual([run.wait(60) for run in runs], [0] * 16)
         for pair in pairs:
             self.assertEqual(self.done("lookup", "store", *pair), line_of(*pair))
@@ -286,13 +380,14 @@ def exponents(block):
 HIDDEN = shake(b"a private seed", 32), shake(b"a master seed", 16)
 
 
-class Secrets(Case):
+class Memory(Case):
     """The program stands still before its first byte of output, at a pipe that is full, and its memory is searched."""
 
-    def start(self, *words):
+    def start(self, *words, **options):
         reading, writing, self.held = full_pipe()
         self.out = os.fdopen(reading, "rb")
-        self.process = subprocess.Popen([PROGRAM, *words], cwd=self.folder, stdin=subprocess.PIPE, stdout=writing)
+        self.process = subprocess.Popen([self.program, *words], cwd=self.folder, stdin=subprocess.PIPE, stdout=writing,
+                                        stderr=subprocess.DEVNULL, **options)
         os.close(writing)
         for last in (self.out.close, self.process.stdin.close, self.process.wait, self.process.kill):
             self.addCleanup(last)
@@ -304,10 +399,10 @@ class Secrets(Case):
     def written(self):
         return self.out.read()[self.held:]
 
-    def key_secrets(self):
+    def key_secrets(self, private=HIDDEN[0]):
         """What only the private seed gives."""
-        secret_seed = shake(b"\x0c" + HIDDEN[0], 64)[:32]
-        return [HIDDEN[0], secret_seed, exponents(shake(b"\x0a" + secret_seed, 96))[:64]]
+        secret_seed = shake(b"\x0c" + private, 64)[:32]
+        return [private, secret_seed, exponents(shake(b"\x0a" + secret_seed, 96))[:64]]
 
     def round_secrets(self, package):
         """What only the master seed gives: the seeds of the rounds that the signature does not show."""
@@ -316,6 +411,8 @@ class Secrets(Case):
         self.assertEqual(len(unseen), 163 - 85)
         return [HIDDEN[1], *unseen]
 
+
+class Secrets(Memory):
     def test_key_is_wiped_before_the_output(self):
         key = self.get(self.key(HIDDEN[0]))
         self.start("key", "private", "-")
@@ -326,9 +423,10 @@ class Secrets(Case):
 
     def test_sign_is_wiped_before_the_output(self):
         package = self.get(self.package(private=HIDDEN[0], master=HIDDEN[1]))
-        self.start("sign", "private", "master", "salt", "-", "-")
+        words = ["-" if word == "salt" else word for word in SIGN]
+        self.start(*words)
         before = self.memory_at(READS_INPUT)
-        self.process.stdin.write(LINE)
+        self.process.stdin.write(SALT)
         self.process.stdin.close()
         after = self.memory_at(WRITES_OUTPUT)
         self.assertEqual(self.written(), package)
@@ -337,14 +435,22 @@ class Secrets(Case):
         secrets = self.key_secrets() + self.round_secrets(package)
         self.assertEqual([secret.hex() for secret in secrets if secret in after], [])
 
+    def test_new_key_is_wiped_before_the_output(self):
+        self.start("new-key", "fresh", "-")
+        after = self.memory_at(WRITES_OUTPUT)
+        self.assertIn(self.written(), after)
+        self.assertEqual([secret.hex() for secret in self.key_secrets(self.get("fresh")) if secret in after], [])
+
     def test_never_printed(self):
         self.key(HIDDEN[0]), self.package(private=HIDDEN[0], master=HIDDEN[1])
         seeds = self.put("long", HIDDEN[0] + HIDDEN[1])
-        sign = ["sign", "private", "master", "salt"]
+        given = ["--key", "key", "--given-master-seed", "master", "--given-salt"]
         for words in (["key", "private", "-"], ["key", seeds, "-"], ["key", "private", "missing/out"],
-                      [*sign, "line", "-"], [*sign, "private", "-"], [*sign, "missing", "-"],
-                      ["sign", "private", seeds, "salt", "line", "-"], ["sign", seeds, "master", "salt", "line", "-"],
-                      ["verify", "private", "package"], ["lookup", "private", "XA", "B"], ["show", seeds]):
+                      SIGN, ["sign", "private", "private", "-"], ["sign", "private", "missing", "-"],
+                      ["sign", seeds, "line", "-"], ["sign", "private", "line", "-", *given, "private"],
+                      ["sign", "private", "line", "-", *given, seeds], ["sign", "private", "line", "-", *given, "master"],
+                      ["verify", "private", "package"], ["lookup", "private", "XA", "B"], ["show", seeds],
+                      ["show", "private"], ["preview", "private"]):
             ran = self.run_in(*words)
             said = ran.stdout + ran.stderr
             for seed in HIDDEN:

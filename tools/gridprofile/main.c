@@ -1,19 +1,24 @@
 /* gridprofile: keys, packages and stores of signed grid profiles, on the command line. */
 #include "program.h"
 
+#include <fcntl.h>
 #include <signal.h>
 #include <string.h>
+#include <unistd.h>
 
 struct command {
     const char *name;
-    int least, most; /* arguments */
-    int (*run)(char **arguments);
+    size_t least, most; /* arguments */
+    int reports;        /* what it prints only tells what it wrote */
+    int (*run)(const struct request *request);
 };
 
 static const struct command commands[] = {
-    {"key", 2, 2, run_key},       {"sign", 5, 5, run_sign},     {"verify", 2, 2, run_verify},
-    {"load", 5, 5, run_load},     {"lookup", 3, 3, run_lookup}, {"show", 1, 1, run_show},
-    {"preview", 0, 1, run_preview},
+    {"new-key", 2, 2, 1, run_new_key}, {"key", 2, 2, 1, run_key},
+    {"sign", 3, 3, 1, run_sign},       {"verify", 2, 2, 0, run_verify},
+    {"new-store", 1, 1, 1, run_new_store}, {"load", 5, 5, 1, run_load},
+    {"lookup", 3, 3, 0, run_lookup},   {"show", 1, 1, 0, run_show},
+    {"preview", 0, 1, 0, run_preview},
 };
 
 static const struct command *find_command(const char *name)
@@ -31,36 +36,91 @@ static void hold_signals(void)
     (void)signal(SIGXFSZ, SIG_IGN);
 }
 
-static int asks_help(int count, char **words)
+/* A file that we open must not get the number of a stream that was closed: what is printed would go
+ * into it. So each closed stream becomes one that cannot be used. */
+static void occupy_streams(void)
 {
-    for (int at = 1; at < count; at++)
-        if (strcmp(words[at], "--help") == 0)
-            return 1;
-    return count > 1 && (strcmp(words[1], "help") == 0 || strcmp(words[1], "-h") == 0);
+    for (int stream = STDIN_FILENO; stream <= STDERR_FILENO; stream++)
+        if (fcntl(stream, F_GETFD) < 0)
+            (void)open("/dev/null", stream == STDIN_FILENO ? O_WRONLY : O_RDONLY);
 }
 
-static int run(int count, char **words)
+static int is_help(const char *word)
+{
+    return strcmp(word, "--help") == 0 || strcmp(word, "-h") == 0;
+}
+
+/* Up to a word `--`, after which every word is an argument. */
+static int asks_help(char **words)
+{
+    for (; *words != NULL && strcmp(*words, "--") != 0; words++)
+        if (is_help(*words))
+            return 1;
+    return 0;
+}
+
+/* Help and version, of the whole program: answers whether the words ask for it. */
+static int tell(char **words, int *status)
+{
+    *status = 0;
+    if (strcmp(words[0], "--version") == 0)
+        puts("gridprofile " GRIDPROFILE_VERSION);
+    else if (strcmp(words[0], "help") == 0 && words[1] != NULL && !is_help(words[1]))
+        *status = print_help(words[1]);
+    else if (strcmp(words[0], "help") == 0 || is_help(words[0]))
+        print_usage(stdout);
+    else
+        return 0;
+    return 1;
+}
+
+static size_t count_arguments(const struct request *request)
+{
+    size_t count = 0;
+    while (request->arguments[count] != NULL)
+        count++;
+    return count;
+}
+
+static int run_command(const struct command *command, char **words)
+{
+    static struct request request;
+    int status;
+    size_t count;
+    request.command = command->name;
+    status = read_request(&request, words);
+    if (status != 0)
+        return status;
+    count = count_arguments(&request);
+    if (count < command->least || count > command->most)
+        return wrong_usage(command->name, count < command->least ? "an argument is missing"
+                                                                 : "too many arguments", "");
+    return command->run(&request);
+}
+
+static int run(char **words, int *is_report)
 {
     const struct command *command;
-    if (asks_help(count, words)) {
-        print_usage(stdout);
-        return 0;
-    }
-    if (count < 2)
-        return wrong_usage("", "a command is missing");
-    command = find_command(words[1]);
+    int status;
+    if (words[0] == NULL)
+        return wrong_usage("", "a command is missing", "");
+    if (tell(words, &status))
+        return status;
+    command = find_command(words[0]);
     if (command == NULL)
-        return wrong_usage(words[1], "there is no such command");
-    if (count - 2 < command->least || count - 2 > command->most)
-        return wrong_usage(command->name, "wrong number of arguments");
-    return command->run(words + 2);
+        return wrong_usage("", "there is no command ", words[0]);
+    if (asks_help(words + 1))
+        return print_help(words[0]);
+    *is_report = command->reports;
+    return run_command(command, words + 1);
 }
 
 int main(int count, char **words)
 {
-    int status, written;
+    int status, written, is_report = 0;
+    occupy_streams();
     hold_signals();
-    status = run(count, words);
-    written = finish_text();
+    status = run(count > 0 ? words + 1 : words, &is_report);
+    written = finish_text(is_report);
     return status != 0 ? status : written;
 }

@@ -4,13 +4,7 @@
 #include <inttypes.h>
 #include <string.h>
 
-/* More than this is listed as too long. */
-#define MOST_BYTES 65536
-
-enum { PAIRS = GRIDPROFILE_STORE_IMAGE_BYTES / GRIDPROFILE_PROFILE_IMAGE_BYTES };
-
-/* Where an image has these. */
-enum { COUNTRY_AT = 1, CLASS_AT = 3, SERIAL_AT = 4 };
+enum { PAIR_BYTES = GRIDPROFILE_SERIAL_OFFSET - GRIDPROFILE_COUNTRY_OFFSET };
 
 /* Skipped lines besides those that the library refuses by a number. */
 enum { EMPTY = -1, UNFINISHED = -2 };
@@ -31,7 +25,7 @@ struct step {
 };
 
 struct followed {
-    struct stored pairs[PAIRS];
+    struct stored pairs[GRIDPROFILE_STORE_SLOTS];
     size_t used, lines, skipped;
     struct step first; /* of those skipped */
 };
@@ -39,7 +33,8 @@ struct followed {
 static size_t find_pair(const struct followed *all, const uint8_t *image)
 {
     size_t at = 0;
-    while (at < all->used && memcmp(all->pairs[at].image + COUNTRY_AT, image + COUNTRY_AT, 3) != 0)
+    while (at < all->used && memcmp(all->pairs[at].image + GRIDPROFILE_COUNTRY_OFFSET,
+                                    image + GRIDPROFILE_COUNTRY_OFFSET, PAIR_BYTES) != 0)
         at++;
     return at;
 }
@@ -49,9 +44,9 @@ static int keep(struct followed *all, struct step *step)
 {
     size_t at = find_pair(all, step->image);
     struct stored *slot = &all->pairs[at];
-    if (at == PAIRS)
+    if (at == GRIDPROFILE_STORE_SLOTS)
         return GRIDPROFILE_STORE_FULL;
-    if (at < all->used && number_at(step->image, SERIAL_AT) <= number_at(slot->image, SERIAL_AT)) {
+    if (at < all->used && serial_of(step->image) <= serial_of(slot->image)) {
         step->older = *slot;
         return GRIDPROFILE_OLD_SERIAL;
     }
@@ -87,13 +82,13 @@ static void follow(struct followed *all, const uint8_t *bytes, size_t length)
 
 static void print_older(const struct step *step)
 {
-    uint32_t serial = number_at(step->image, SERIAL_AT);
-    uint32_t stored = number_at(step->older.image, SERIAL_AT);
+    uint32_t serial = serial_of(step->image);
+    uint32_t stored = serial_of(step->older.image);
     fprintf(stderr,
             "  its serial, %" PRIu32 ", is not greater than %" PRIu32 ", which line %zu has for the"
             " same country and class, %.2s and %c\n",
-            serial, stored, step->older.line, (const char *)step->image + COUNTRY_AT,
-            step->image[CLASS_AT]);
+            serial, stored, step->older.line, (const char *)step->image + GRIDPROFILE_COUNTRY_OFFSET,
+            step->image[GRIDPROFILE_CLASS_OFFSET]);
 }
 
 static void print_reason(const struct step *step)
@@ -105,7 +100,8 @@ static void print_reason(const struct step *step)
     else if (step->skipped == GRIDPROFILE_OLD_SERIAL)
         print_older(step);
     else if (step->skipped == GRIDPROFILE_STORE_FULL)
-        fprintf(stderr, "  %d other pairs of country and class are stored already\n", PAIRS);
+        fprintf(stderr, "  %d other pairs of country and class are stored already\n",
+                GRIDPROFILE_STORE_SLOTS);
     if (step->skipped == GRIDPROFILE_BAD_SIZE)
         fprintf(stderr, "  it has %zu bytes with its line feed; it must have %d to %d\n",
                 step->length, GRIDPROFILE_LINE_MIN_BYTES, GRIDPROFILE_LINE_MAX_BYTES);
@@ -117,9 +113,9 @@ static void print_reason(const struct step *step)
 static void print_skipped(const uint8_t *bytes, size_t length)
 {
     static struct followed all;
-    if (length > MOST_BYTES) {
+    if (length > GRIDPROFILE_PREVIEW_MAX_BYTES) {
         fprintf(stderr, "gridprofile preview: the input has more than %d bytes; nothing was read "
-                        "from it\n", MOST_BYTES);
+                        "from it\n", GRIDPROFILE_PREVIEW_MAX_BYTES);
         return;
     }
     follow(&all, bytes, length);
@@ -130,19 +126,19 @@ static void print_skipped(const uint8_t *bytes, size_t length)
     print_reason(&all.first);
 }
 
-int run_preview(char **arguments)
+int run_preview(const struct request *request)
 {
-    static uint8_t lines[MOST_BYTES + 1];
+    static uint8_t lines[GRIDPROFILE_PREVIEW_MAX_BYTES + 1];
     static uint8_t listing[GRIDPROFILE_LISTING_BYTES];
-    struct input inputs[] = {
-        {"FILE", arguments[0] != NULL ? arguments[0] : "-", lines, 0, MOST_BYTES, 0, 0}};
+    const char *path = request->arguments[0] != NULL ? request->arguments[0] : "-";
+    struct input inputs[] = {{.role = "FILE", .path = path, .bytes = lines, .room = sizeof lines}};
     size_t length = 0;
     int status = read_inputs(inputs, COUNT(inputs)), answer;
     if (status != 0)
         return status;
     answer = gridprofile_preview(lines, inputs[0].length, listing, sizeof listing, &length);
     if (answer != 0)
-        return refused("preview", answer, NULL, 0);
+        return refused("preview", answer, NULL, 0, NULL, 0);
     (void)fwrite(listing, 1, length, stdout);
     print_skipped(lines, inputs[0].length);
     return 0;

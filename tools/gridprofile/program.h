@@ -3,8 +3,7 @@
 #ifndef GRIDPROFILE_PROGRAM_H
 #define GRIDPROFILE_PROGRAM_H
 
-#define _XOPEN_SOURCE 700 /* realpath, mkstemp, fsync */
-#define _DEFAULT_SOURCE   /* flock */
+#define _GNU_SOURCE /* flock, getrandom, memmem, realpath, renameat2 */
 
 #include <limits.h>
 #include <stdio.h>
@@ -12,75 +11,142 @@
 
 #include "gridprofile.h"
 
-/* Exit statuses besides 0 and the refusals 1 to 10, with the numbers of sysexits.h. */
+/* Exit statuses besides 0 and the library's refusals, with the numbers of sysexits.h. */
 #define WRONG_USAGE 64
+#define DAMAGED_STORE 65
+#define SELF_CHECK_FAILED 70
+#define NO_RANDOM_BYTES 71
 #define FILE_TROUBLE 74
 
-/* A file that a command reads. One byte more than it may have is read at most, so that a longer
- * file is told from a whole one and the library refuses it. */
+#define COUNT(array) (sizeof(array) / sizeof *(array))
+
+/* What is asked for. */
+struct request {
+    const char *command;
+    char *arguments[8]; /* in the number that the command takes, and NULL after the last */
+    int force;          /* replace an output that exists */
+    const char *given_master, *given_salt, *key; /* files, or NULL */
+    unsigned wait;      /* seconds, for a lock that somebody else holds */
+};
+
+/* A file that a command reads. More than it may have is read, so that a longer file is told from a
+ * whole one and the library refuses it. */
 struct input {
     const char *role; /* as the usage text names it */
     const char *path; /* "-" is standard input */
-    uint8_t *bytes;   /* room for most + 1 */
-    size_t least;     /* the lengths that are taken */
-    size_t most;
-    int may_miss;     /* a missing file stands for `least` bytes as they are in the buffer */
-    size_t length;    /* what was read */
+    uint8_t *bytes;
+    size_t room;        /* how much is read at most, more than `most` and `also` */
+    size_t least, most; /* the lengths that are taken */
+    size_t also;        /* one more, or 0 */
+    int secret;         /* a seed, which others must not read */
+    size_t length;      /* what was read */
+    size_t size;        /* what the file has, where that can be told, else what was read */
 };
-
-#define COUNT(array) (sizeof(array) / sizeof *(array))
 
 /* A file that a command writes. */
 struct output {
     const char *path;      /* "-" is standard output */
-    char target[PATH_MAX]; /* what is replaced, with links followed */
+    char target[PATH_MAX]; /* what is written, with links followed */
     char folder[PATH_MAX]; /* where that stands */
+    int exists;            /* and is replaced */
     mode_t mode;           /* the permissions that it gets */
+    uid_t owner;           /* those of what is replaced */
+    gid_t group;
+    unsigned wait;         /* seconds, for the lock on the folder */
+    int must_lock;         /* also where the folder cannot be locked at all, it is a failure */
+    int lock;              /* the locked folder, or -1 */
 };
+
+/* kinds.c: what a file of this many bytes looks like, and its name for people ("a public key"). */
+enum kind { NO_KIND, SEED, KEY, STORE, PACKAGE, LINE };
+enum kind kind_of(size_t size);
+const char *kind_name(size_t size);
+
+/* options.c: sorts words into a request; answers 0, or the exit status after saying what is wrong. */
+int read_request(struct request *request, char **words);
+int takes_option(const char *command, const char *option);
 
 /* input.c: each answers 0, or the exit status after saying on standard error what is wrong. */
 int is_stream(const char *path);
+struct input exact_input(const char *role, const char *path, uint8_t *bytes, size_t size);
+struct input package_input(const char *path, uint8_t *bytes);
 int read_inputs(struct input *inputs, size_t count);
+int is_size_taken(const struct input *input);
 
 /* output.c: as above. `prepare` finds the output and then reads the inputs, none of which it may be;
- * `find_output` and `lock_output` are for an output that is an input too. */
-int prepare(struct output *output, const char *path, struct input *inputs, size_t count);
-int find_output(struct output *output, const char *path);
-int lock_output(const struct output *output);
+ * `find_output` and `find_store` are for outputs that come with no such inputs. */
+int prepare(struct output *output, const struct request *request, const char *path, enum kind kind,
+            struct input *inputs, size_t count);
+int find_output(struct output *output, const struct request *request, const char *path,
+                enum kind kind);
+int find_store(struct output *output, const struct request *request, const char *path);
+FILE *report_of(const struct output *output);
+
+/* lock.c: as above. Keeps other runs out of the output's folder, and clears what killed ones left. */
+int lock_output(struct output *output);
+void unlock_output(struct output *output);
+extern const char *const unfinished;
 
 /* write.c: as above. */
-int write_output(const struct output *output, const uint8_t *bytes, size_t length);
-int finish_text(void);
+int write_output(struct output *output, const uint8_t *bytes, size_t length);
+int finish_text(int is_report);
 
-/* secret.c */
+/* secret.c: `run_apart` runs the work on a stack of its own and then wipes that. */
 void keep_no_core(void);
 void wipe(void *bytes, size_t length);
-void wipe_stack(void);
+void run_apart(void (*work)(void));
+int draw(uint8_t *bytes, size_t length);
+int share_bytes(const uint8_t *seed, size_t seed_length, const uint8_t *bytes, size_t length);
 
-/* trouble.c: says what is wrong, and returns the exit status. */
-int wrong_usage(const char *command, const char *what);
+/* trouble.c: says what is wrong, and returns the exit status. `line` is the refused line, or NULL. */
+int wrong_usage(const char *command, const char *what, const char *which);
 int file_trouble(const char *doing, const char *path, const char *why);
-int refused(const char *command, int answer, const struct input *inputs, size_t count);
+int refused(const char *command, int answer, const struct input *inputs, size_t count,
+            const uint8_t *line, size_t length);
+int refused_package(const char *command, int answer, const struct input *inputs, size_t count,
+                    const struct input *package);
+int refused_because(const char *command, int answer, const char *meaning, const char *advice);
+int damaged_store(const char *path, const char *how);
+void warn(const char *path, const char *what);
 void print_refusals(FILE *to);
 
 /* explain.c: what is wrong first with a line that the library refuses. */
 void explain_line(FILE *to, const uint8_t *line, size_t length);
 
-/* words.c: `print_profile` prints a profile's image, or answers 5 where it breaks a rule. */
-uint32_t number_at(const uint8_t *image, size_t offset);
+/* words.c: prints a profile's image, or answers 5 where it breaks a rule. */
+uint32_t serial_of(const uint8_t *image);
+void print_device(FILE *to, const uint8_t *image);
 int print_profile(const uint8_t *image);
+
+/* fingerprint.c: the name of a public key. */
+void print_fingerprint(FILE *to, const uint8_t *key);
+
+/* store_file.c: a store's image with its checksum behind it. `open_store` looks at what was read and
+ * sets the length to the image's where there is one; it answers 0 or the exit status. */
+#define CHECKSUM_BYTES 32
+#define STORE_FILE_BYTES (GRIDPROFILE_STORE_IMAGE_BYTES + CHECKSUM_BYTES)
+struct input store_input(const char *path, uint8_t *bytes);
+int open_store(struct input *store);
+void seal_store(uint8_t *bytes);
+size_t broken_slot(const uint8_t *image);
+
+/* verify.c: the loader's answers 1 to 5, in its order, for any device and any store. */
+int verify_package(const uint8_t *key, size_t key_length, const uint8_t *package, size_t length);
 
 /* usage.c */
 void print_usage(FILE *to);
+int print_help(const char *command);
+void print_synopsis(FILE *to, const char *command);
 
-/* The commands: each takes its arguments, in the number that main.c allows and with NULL after the
- * last, and returns the exit status. */
-int run_key(char **arguments);
-int run_sign(char **arguments);
-int run_verify(char **arguments);
-int run_load(char **arguments);
-int run_lookup(char **arguments);
-int run_show(char **arguments);
-int run_preview(char **arguments);
+/* The commands: each returns the exit status. */
+int run_new_key(const struct request *request);
+int run_key(const struct request *request);
+int run_sign(const struct request *request);
+int run_verify(const struct request *request);
+int run_new_store(const struct request *request);
+int run_load(const struct request *request);
+int run_lookup(const struct request *request);
+int run_show(const struct request *request);
+int run_preview(const struct request *request);
 
 #endif

@@ -1,40 +1,173 @@
-/* gridprofile sign PRIVATE MASTER SALT LINE PACKAGE */
+/* gridprofile sign PRIVATE LINE PACKAGE [--key KEY]
+ *     [--given-master-seed MASTER --given-salt SALT] */
 #include "program.h"
+
+#include <string.h>
+
+/* As for keys: a draw that is short is not met twice by chance. */
+enum { TRIES = 4 };
+
+/* More than a line has, so that what is wrong with a longer one can be told. */
+enum { LINE_ROOM = 1024 };
 
 static uint8_t private_seed[GRIDPROFILE_PRIVATE_SEED_BYTES + 1];
 static uint8_t master_seed[GRIDPROFILE_MASTER_SEED_BYTES + 1];
 static uint8_t salt[GRIDPROFILE_SALT_BYTES + 1];
-static uint8_t line[GRIDPROFILE_LINE_MAX_BYTES + 1];
-static uint8_t package[GRIDPROFILE_PACKAGE_MAX_BYTES];
+static uint8_t line[LINE_ROOM];
+static uint8_t given_key[GRIDPROFILE_KEY_BYTES + 1];
+static uint8_t key[GRIDPROFILE_KEY_BYTES], package[GRIDPROFILE_PACKAGE_MAX_BYTES];
+static size_t package_length;
 
-static void wipe_secrets(void)
+/* In this order: the key where it is given, and the last two where seeds are. */
+enum { PRIVATE, LINE_FILE, KEY_FILE, MASTER, SALT, INPUTS };
+static struct input inputs[INPUTS];
+static size_t input_count;
+
+static int answer, own_answer;
+
+static void list_inputs(const struct request *request)
 {
-    wipe(private_seed, sizeof private_seed);
-    wipe(master_seed, sizeof master_seed);
-    wipe_stack();
+    struct input line_file = {"LINE", request->arguments[1], line, sizeof line,
+                              GRIDPROFILE_LINE_MIN_BYTES, GRIDPROFILE_LINE_MAX_BYTES, 0, 0, 0, 0};
+    inputs[PRIVATE] = exact_input("PRIVATE", request->arguments[0], private_seed,
+                                  GRIDPROFILE_PRIVATE_SEED_BYTES);
+    inputs[LINE_FILE] = line_file;
+    inputs[KEY_FILE] = exact_input("KEY", request->key, given_key, GRIDPROFILE_KEY_BYTES);
+    inputs[MASTER] =
+        exact_input("MASTER", request->given_master, master_seed, GRIDPROFILE_MASTER_SEED_BYTES);
+    inputs[SALT] = exact_input("SALT", request->given_salt, salt, GRIDPROFILE_SALT_BYTES);
+    inputs[PRIVATE].secret = inputs[MASTER].secret = 1;
+    input_count = request->given_master != NULL ? INPUTS : request->key != NULL ? MASTER : KEY_FILE;
 }
 
-int run_sign(char **arguments)
+static void sign(void)
 {
-    struct input inputs[] = {
-        {"PRIVATE", arguments[0], private_seed, sizeof private_seed - 1, sizeof private_seed - 1, 0, 0},
-        {"MASTER", arguments[1], master_seed, sizeof master_seed - 1, sizeof master_seed - 1, 0, 0},
-        {"SALT", arguments[2], salt, sizeof salt - 1, sizeof salt - 1, 0, 0},
-        {"LINE", arguments[3], line, GRIDPROFILE_LINE_MIN_BYTES, GRIDPROFILE_LINE_MAX_BYTES, 0, 0},
-    };
-    struct output output;
-    size_t length = 0;
-    int status, answer = 0;
-    keep_no_core();
-    status = prepare(&output, arguments[4], inputs, COUNT(inputs));
-    if (status == 0)
-        answer = gridprofile_make_package(private_seed, inputs[0].length, master_seed,
-                                          inputs[1].length, salt, inputs[2].length, line,
-                                          inputs[3].length, package, sizeof package, &length);
-    wipe_secrets();
+    answer = gridprofile_make_package(private_seed, inputs[PRIVATE].length, master_seed,
+                                      inputs[MASTER].length, salt, inputs[SALT].length, line,
+                                      inputs[LINE_FILE].length, package, sizeof package,
+                                      &package_length);
+}
+
+/* What was made is verified before it is written: a fault of the machine while signing could give
+ * the private seed away. */
+static void verify_own(void)
+{
+    own_answer = gridprofile_make_key(private_seed, inputs[PRIVATE].length, key, sizeof key);
+    if (own_answer == 0)
+        own_answer = verify_package(key, sizeof key, package, package_length);
+}
+
+static int sign_drawn(void)
+{
+    int status = 0;
+    inputs[MASTER].length = GRIDPROFILE_MASTER_SEED_BYTES;
+    inputs[SALT].length = GRIDPROFILE_SALT_BYTES;
+    answer = GRIDPROFILE_SHORT_DRAW;
+    for (int left = TRIES; left > 0 && status == 0 && answer == GRIDPROFILE_SHORT_DRAW; left--) {
+        status = draw(master_seed, GRIDPROFILE_MASTER_SEED_BYTES);
+        if (status == 0)
+            status = draw(salt, GRIDPROFILE_SALT_BYTES);
+        if (status == 0)
+            run_apart(sign);
+    }
+    return status;
+}
+
+/* The salt opens the signature, so that a seed which is also the salt would be given away. */
+static const char *reused_seed(void)
+{
+    if (share_bytes(private_seed, sizeof private_seed - 1, salt, sizeof salt - 1))
+        return "PRIVATE and SALT share bytes, and the salt is public";
+    if (share_bytes(master_seed, sizeof master_seed - 1, salt, sizeof salt - 1))
+        return "MASTER and SALT share bytes, and the salt is public";
+    if (share_bytes(master_seed, sizeof master_seed - 1, private_seed, sizeof private_seed - 1))
+        return "PRIVATE and MASTER share bytes; each seed is drawn for itself";
+    if (share_bytes(private_seed, sizeof private_seed - 1, package, package_length) ||
+        share_bytes(master_seed, sizeof master_seed - 1, package, package_length))
+        return "the bytes of a seed would stand in the package";
+    return NULL;
+}
+
+/* Says what is wrong with the line too, where that was refused. */
+static int refuse(const struct request *request)
+{
+    const struct input *read = &inputs[LINE_FILE];
+    int whole = read->length > 0 && read->length < read->room;
+    int is_line = answer == GRIDPROFILE_BAD_PROFILE || (whole && !is_size_taken(read));
+    return refused(request->command, answer, inputs, input_count, is_line ? line : NULL,
+                   read->length);
+}
+
+static int refuse_own(void)
+{
+    fprintf(stderr,
+            "gridprofile sign: the package that was made does not verify (%d); it is not written\n"
+            "  What to do: this computer is not to be trusted: sign on another one.\n",
+            own_answer);
+    return SELF_CHECK_FAILED;
+}
+
+/* Everything that keeps the package from being written. */
+static int judge(const struct request *request, const char *reused)
+{
+    if (answer != 0)
+        return refuse(request);
+    if (request->key != NULL && memcmp(key, given_key, sizeof key) != 0)
+        return wrong_usage(request->command, "KEY is not the public key of PRIVATE: ",
+                           request->key);
+    if (reused != NULL)
+        return wrong_usage(request->command, reused, "");
+    return own_answer != 0 ? refuse_own() : 0;
+}
+
+static int sign_and_verify(const struct request *request, const char **reused)
+{
+    int status = 0;
+    answer = GRIDPROFILE_BAD_SIZE;
+    if (request->key != NULL && !is_size_taken(&inputs[KEY_FILE]))
+        return 0;
+    if (request->given_master != NULL)
+        run_apart(sign);
+    else
+        status = sign_drawn();
+    if (status == 0 && answer == 0) {
+        run_apart(verify_own);
+        *reused = reused_seed();
+    }
+    return status;
+}
+
+static int report(struct output *output)
+{
+    uint8_t profile[GRIDPROFILE_PROFILE_IMAGE_BYTES];
+    int status = write_output(output, package, package_length);
     if (status != 0)
         return status;
-    if (answer != 0)
-        return refused("sign", answer, inputs, COUNT(inputs));
-    return write_output(&output, package, length);
+    (void)gridprofile_read_line(line, inputs[LINE_FILE].length, profile, sizeof profile);
+    if (serial_of(profile) == UINT32_MAX)
+        warn(inputs[LINE_FILE].path, "this serial is the greatest: nothing can replace the profile");
+    fputs("Signed and verified: ", report_of(output));
+    print_device(report_of(output), profile);
+    print_fingerprint(report_of(output), key);
+    return 0;
+}
+
+int run_sign(const struct request *request)
+{
+    const char *reused = NULL;
+    struct output output;
+    int status;
+    keep_no_core();
+    if ((request->given_master == NULL) != (request->given_salt == NULL) ||
+        (request->given_master != NULL && request->key == NULL))
+        return wrong_usage(request->command, "given seeds are a master seed, a salt and the key", "");
+    list_inputs(request);
+    status = prepare(&output, request, request->arguments[2], PACKAGE, inputs, input_count);
+    if (status == 0)
+        status = sign_and_verify(request, &reused);
+    wipe(private_seed, sizeof private_seed);
+    wipe(master_seed, sizeof master_seed);
+    if (status == 0)
+        status = judge(request, reused);
+    return status != 0 ? status : report(&output);
 }

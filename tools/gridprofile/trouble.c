@@ -12,13 +12,14 @@ struct refusal {
 static const struct refusal refusals[] = {
     {"a file has a wrong size", "give files of the sizes that `gridprofile help` lists"},
     {"a draw from the seeds is short",
-     "to sign, draw fresh seeds and a fresh salt; a package that says this is damaged or forged"},
+     "a seed that says this cannot be used: make another key; a package that says this is damaged "
+     "or forged"},
     {"a field of the key or of the signature is out of range",
      "key or package is damaged: fetch both again from the signer"},
     {"the signature does not hold for this key and line",
-     "do not use this package; fetch package and key again from the signer"},
+     "do not use this package; compare the key's fingerprint with the signer's, and fetch both again"},
     {"the profile line breaks a field rule, or its class does not fit its volts",
-     "correct the line (docs/FORMATS.md, \"Profile line\") and sign it again"},
+     "correct the line and sign it again; `gridprofile help line` has the rules"},
     {"the profile is for another country or class than this device's",
      "`gridprofile show` says which device the package is for"},
     {"the serial is not greater than the stored one",
@@ -37,10 +38,12 @@ void print_refusals(FILE *to)
         fprintf(to, "  %2zu  %s\n", at + 1, refusals[at].meaning);
 }
 
-int wrong_usage(const char *command, const char *what)
+int wrong_usage(const char *command, const char *what, const char *which)
 {
-    fprintf(stderr, "gridprofile%s%s: %s\n\n", *command ? " " : "", command, what);
-    print_usage(stderr);
+    const char *space = *command ? " " : "";
+    fprintf(stderr, "gridprofile%s%s: %s%s\n", space, command, what, which);
+    print_synopsis(stderr, command);
+    fprintf(stderr, "`gridprofile help%s%s` says more.\n", space, command);
     return WRONG_USAGE;
 }
 
@@ -50,26 +53,75 @@ int file_trouble(const char *doing, const char *path, const char *why)
     return FILE_TROUBLE;
 }
 
-/* Names an input whose size is not one that it may have. */
-static void print_size(const struct input *input)
+void warn(const char *path, const char *what)
 {
-    int longer = input->length > input->most;
-    if (input->length >= input->least && !longer)
-        return;
-    fprintf(stderr, "  %s (%s) has %s%zu bytes; ", input->role, input->path,
-            longer ? "more than " : "", longer ? input->most : input->length);
-    if (input->least == input->most)
-        fprintf(stderr, "it must have %zu\n", input->most);
-    else
-        fprintf(stderr, "it must have %zu to %zu\n", input->least, input->most);
+    fprintf(stderr, "gridprofile: warning: %s: %s\n", path, what);
 }
 
-int refused(const char *command, int answer, const struct input *inputs, size_t count)
+int damaged_store(const char *path, const char *how)
+{
+    fprintf(stderr, "gridprofile: the store %s is damaged: %s\n", path, how);
+    fputs("  What to do: take a copy of it from before, or make a new one by `gridprofile new-store`\n"
+          "  and load the newest packages again; a new store takes old serials too.\n",
+          stderr);
+    return DAMAGED_STORE;
+}
+
+/* Names an input whose size is not one that it may have, and what it may be instead: arguments that
+ * were exchanged are seen by that. */
+static void print_size(const struct input *input)
+{
+    const char *name = kind_name(input->size);
+    int more = input->size == input->room;
+    if (is_size_taken(input))
+        return;
+    fprintf(stderr, "  %s (%s) has %s%zu bytes", input->role, input->path, more ? "at least " : "",
+            input->size);
+    if (name != NULL && !more)
+        fprintf(stderr, ", the size of %s", name);
+    fprintf(stderr, "; it must have %zu", input->least);
+    if (input->least != input->most)
+        fprintf(stderr, " to %zu", input->most);
+    if (input->also != 0)
+        fprintf(stderr, " or %zu", input->also);
+    fputc('\n', stderr);
+}
+
+static void print_heading(const char *command, int answer, const char *meaning)
+{
+    fprintf(stderr, "gridprofile %s: refused with %d: %s\n", command, answer, meaning);
+}
+
+static void print_advice(const char *advice)
+{
+    fprintf(stderr, "  What to do: %s.\n", advice);
+}
+
+int refused_because(const char *command, int answer, const char *meaning, const char *advice)
+{
+    print_heading(command, answer, meaning);
+    print_advice(advice);
+    return answer;
+}
+
+int refused(const char *command, int answer, const struct input *inputs, size_t count,
+            const uint8_t *line, size_t length)
 {
     const struct refusal *refusal = &refusals[answer - 1];
-    fprintf(stderr, "gridprofile %s: refused with %d: %s\n", command, answer, refusal->meaning);
+    print_heading(command, answer, refusal->meaning);
     for (size_t at = 0; answer == GRIDPROFILE_BAD_SIZE && at < count; at++)
         print_size(&inputs[at]);
-    fprintf(stderr, "  What to do: %s.\n", refusal->advice);
+    if (line != NULL)
+        explain_line(stderr, line, length);
+    print_advice(refusal->advice);
     return answer;
+}
+
+int refused_package(const char *command, int answer, const struct input *inputs, size_t count,
+                    const struct input *package)
+{
+    if (answer != GRIDPROFILE_BAD_PROFILE)
+        return refused(command, answer, inputs, count, NULL, 0);
+    return refused(command, answer, inputs, count, package->bytes + GRIDPROFILE_SIGNATURE_BYTES,
+                   package->length - GRIDPROFILE_SIGNATURE_BYTES);
 }

@@ -1,40 +1,150 @@
-/* The usage text. */
+/* What the program says about itself. */
 #include "program.h"
 
-static const char *const commands =
-    "usage: gridprofile COMMAND ARGUMENTS\n"
+#include <string.h>
+
+struct page {
+    const char *name;
+    const char *synopsis; /* what follows the name */
+    const char *options;  /* one more line of it, or "" */
+    const char *summary;
+    const char *text;
+};
+
+static const struct page pages[] = {
+    {"new-key", "PRIVATE KEY", "[--force] [--wait SECONDS]", "draw a private seed and make its key",
+     "Draws a private seed from the operating system, and writes it to PRIVATE, which only its owner\n"
+     "may read, and its public key to KEY. PRIVATE must not exist, whatever the options are. Keep it:\n"
+     "nobody can make it again. Both files are written, or none.\n"},
+    {"key", "PRIVATE KEY", "[--force] [--wait SECONDS]", "make the key of a private seed again",
+     "Makes the public key of a private seed that there is, for instance after the key was lost.\n"},
+    {"sign", "PRIVATE LINE PACKAGE",
+     "[--key KEY] [--force] [--wait SECONDS] [--given-master-seed MASTER --given-salt SALT]",
+     "sign a profile line, which makes a package",
+     "Signs the line under the private seed, verifies the package, and writes it. Master seed and salt\n"
+     "are drawn from the operating system. With --key it signs only where KEY is PRIVATE's own.\n"
+     "\n"
+     "For tests and recovery both can be given, with the key: the same seeds, salt and line make the\n"
+     "same package. Never give the same two for another line: that can give the private seed away.\n"
+     "Seeds that share bytes with one another, with the salt or with the package are refused.\n"},
+    {"verify", "KEY PACKAGE", "", "verify a package: its signature, then its line",
+     "Prints which device the package is for, and the key's fingerprint, which is to be compared with\n"
+     "what the signer reads aloud.\n"},
+    {"new-store", "STORE", "[--force] [--wait SECONDS]", "make an empty store",
+     "With --force it empties a store that exists.\n"},
+    {"load", "STORE KEY PACKAGE COUNTRY CLASS", "[--wait SECONDS]",
+     "verify a package and store its profile",
+     "Does what a device does that is set to COUNTRY and CLASS, and prints what it accepted and what\n"
+     "that replaces. STORE must exist. Loads of one store at the same time wait for each other.\n"},
+    {"lookup", "STORE COUNTRY CLASS", "", "print the line that is stored for COUNTRY and CLASS", ""},
+    {"show", "FILE", "", "print a package, a store, a line or a key in words",
+     "It verifies nothing. Of a key it prints the fingerprint: 16 bytes of SHAKE128 of the key.\n"},
+    {"preview", "[FILE]", "", "list what a device would hold after these lines",
+     "The lines are taken as if they were signed; without FILE they come from standard input. How many\n"
+     "were skipped, and why the first was, is said on standard error.\n"},
+};
+
+static const char *const options =
     "\n"
-    "  key PRIVATE KEY                        make the public key of a private seed\n"
-    "  sign PRIVATE MASTER SALT LINE PACKAGE  sign a profile line, which makes a package\n"
-    "  verify KEY PACKAGE                     verify a package: its signature, then its line\n"
-    "  load STORE KEY PACKAGE COUNTRY CLASS   verify a package and store its profile, as a device\n"
-    "                                         does that is set to COUNTRY and CLASS\n"
-    "  lookup STORE COUNTRY CLASS             print the line that is stored for COUNTRY and CLASS\n"
-    "  show FILE                              print the profiles of a package, a store or a line\n"
-    "                                         in words; it verifies nothing\n"
-    "  preview [FILE]                         list what a device would hold after these lines,\n"
-    "                                         taken as if they were signed\n"
-    "  help                                   print this text\n";
+    "Options:\n"
+    "  --force         replace an output that exists; a seed is never replaced, and a key or a store\n"
+    "                  only by another\n"
+    "  --wait SECONDS  how long to wait for another run that writes in the same folder (30)\n"
+    "  --help, -h      say what a command does; --version prints the version\n";
 
 static const char *const files =
     "\n"
     "Files; \"-\" is standard input or standard output, and one input at most may be \"-\":\n"
-    "  PRIVATE  private seed: 32 random bytes, secret\n"
-    "  MASTER   master seed: 16 random bytes, secret, fresh for each package\n"
-    "  SALT     32 random bytes, fresh for each package\n"
+    "  PRIVATE  private seed, 32 bytes, secret\n"
     "  KEY      public key, 77 bytes\n"
-    "  LINE     one profile line, 42 to 72 bytes with its line feed\n"
+    "  LINE     one profile line, 42 to 72 bytes with its line feed (`gridprofile help line`)\n"
     "  PACKAGE  signature and line, 19194 to 19224 bytes\n"
-    "  STORE    16 profiles, 1024 bytes; load takes a missing file for an empty store and makes it\n"
+    "  STORE    16 profiles and a checksum, 1056 bytes; 1024 without the checksum\n"
+    "  MASTER   master seed, 16 bytes, secret;  SALT  32 bytes\n"
     "COUNTRY is two letters A to Z, CLASS one letter A to D.\n"
     "\n"
     "A file is written whole or not at all; after a refusal it is as it was.\n"
     "\n"
-    "Exit status: 0 done; 64 wrong usage; 74 a file cannot be read or written; else refused:\n";
+    "Exit status: 0 done; 64 wrong usage; 65 a store is damaged; 70 a package that was made does not\n"
+    "verify; 71 the system gives no random bytes; 74 a file cannot be read or written; else refused:\n";
+
+static const char *const line_rules =
+    "A profile line is 14 fields with commas between them, no spaces, and one line feed at the end:\n"
+    "   1 tag              GP1\n"
+    "   2 country          two letters A to Z\n"
+    "   3 class            A 100 to 139 volts, B 140 to 259, C 260 to 519, D 520 to 1000\n"
+    "   4 serial           1 to 4294967295\n"
+    "   5 nominal volts    100 to 1000\n"
+    "   6 hertz            50 or 60\n"
+    "   7 over-voltage     1001 to 1500, thousandths of nominal\n"
+    "   8 its delay        20 to 60000 ms, as every delay\n"
+    "   9 under-voltage    1 to 999\n"
+    "  10 its delay\n"
+    "  11 over-frequency   1 to 5000 mHz above nominal\n"
+    "  12 its delay\n"
+    "  13 under-frequency  -5000 to -1 mHz\n"
+    "  14 its delay\n"
+    "Numbers have no leading zeros and no plus. An example:\n"
+    "  GP1,XA,B,12,230,50,1150,100,800,1500,1500,100,-2500,100\n";
+
+static const struct page *find_page(const char *name)
+{
+    for (size_t at = 0; at < COUNT(pages); at++)
+        if (strcmp(pages[at].name, name) == 0)
+            return &pages[at];
+    return NULL;
+}
+
+/* An option is taken where the command's own usage names it, as a whole word in brackets. */
+int takes_option(const char *command, const char *option)
+{
+    const struct page *page = find_page(command);
+    const char *found = page == NULL ? NULL : strstr(page->options, option);
+    if (found == NULL || found == page->options)
+        return 0;
+    return strchr("[ ", found[-1]) != NULL && strchr(" ]", found[strlen(option)]) != NULL;
+}
+
+void print_synopsis(FILE *to, const char *command)
+{
+    const struct page *page = find_page(command);
+    if (page != NULL) {
+        fprintf(to, "usage: gridprofile %s %s%s%s\n", page->name, page->synopsis,
+                *page->options ? " " : "", page->options);
+        return;
+    }
+    fputs("usage: gridprofile COMMAND ..., where COMMAND is one of", to);
+    for (size_t at = 0; at < COUNT(pages); at++)
+        fprintf(to, "%s %s", at > 0 ? "," : "", pages[at].name);
+    fputc('\n', to);
+}
 
 void print_usage(FILE *to)
 {
-    fputs(commands, to);
+    fputs("usage: gridprofile COMMAND ARGUMENTS [OPTIONS]\n\n", to);
+    for (size_t at = 0; at < COUNT(pages); at++) {
+        int width = 42 - (int)strlen(pages[at].name) - 1;
+        fprintf(to, "  %s %-*s %s\n", pages[at].name, width, pages[at].synopsis,
+                pages[at].summary);
+    }
+    fputs("  help [COMMAND]                             print this, or more about a command\n", to);
+    fputs(options, to);
     fputs(files, to);
     print_refusals(to);
+}
+
+int print_help(const char *command)
+{
+    const struct page *page = find_page(command);
+    if (strcmp(command, "line") == 0) {
+        fputs(line_rules, stdout);
+        return 0;
+    }
+    if (page == NULL)
+        return wrong_usage("", "there is no command ", command);
+    print_synopsis(stdout, command);
+    printf("\n%c%s.\n", page->summary[0] - 'a' + 'A', page->summary + 1);
+    fputs(page->text, stdout);
+    fputs("\n`gridprofile help` says what the files, the options and the exit statuses are.\n", stdout);
+    return 0;
 }

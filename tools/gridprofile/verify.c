@@ -1,8 +1,7 @@
 /* gridprofile verify KEY PACKAGE */
 #include "program.h"
 
-/* The loader's answers 1 to 5, in its order, for any device and any store. */
-static int verify(const uint8_t *key, size_t key_length, const uint8_t *package, size_t length)
+int verify_package(const uint8_t *key, size_t key_length, const uint8_t *package, size_t length)
 {
     const uint8_t *line = package + GRIDPROFILE_SIGNATURE_BYTES;
     uint8_t profile[GRIDPROFILE_PROFILE_IMAGE_BYTES];
@@ -14,20 +13,30 @@ static int verify(const uint8_t *key, size_t key_length, const uint8_t *package,
     return answer != 0 ? answer : gridprofile_read_line(line, length, profile, sizeof profile);
 }
 
-int run_verify(char **arguments)
+/* The line of a verified package. */
+static void print_line_of(const uint8_t *package, size_t length)
+{
+    uint8_t profile[GRIDPROFILE_PROFILE_IMAGE_BYTES];
+    (void)gridprofile_read_line(package + GRIDPROFILE_SIGNATURE_BYTES,
+                                length - GRIDPROFILE_SIGNATURE_BYTES, profile, sizeof profile);
+    print_device(stdout, profile);
+}
+
+int run_verify(const struct request *request)
 {
     static uint8_t key[GRIDPROFILE_KEY_BYTES + 1], package[GRIDPROFILE_PACKAGE_MAX_BYTES + 1];
     struct input inputs[] = {
-        {"KEY", arguments[0], key, GRIDPROFILE_KEY_BYTES, GRIDPROFILE_KEY_BYTES, 0, 0},
-        {"PACKAGE", arguments[1], package, GRIDPROFILE_PACKAGE_MIN_BYTES,
-         GRIDPROFILE_PACKAGE_MAX_BYTES, 0, 0},
+        exact_input("KEY", request->arguments[0], key, GRIDPROFILE_KEY_BYTES),
+        package_input(request->arguments[1], package),
     };
     int status = read_inputs(inputs, COUNT(inputs)), answer;
     if (status != 0)
         return status;
-    answer = verify(key, inputs[0].length, package, inputs[1].length);
+    answer = verify_package(key, inputs[0].length, package, inputs[1].length);
     if (answer != 0)
-        return refused("verify", answer, inputs, COUNT(inputs));
-    puts("The signature holds, and the line is a profile.");
+        return refused_package(request->command, answer, inputs, COUNT(inputs), &inputs[1]);
+    fputs("The signature holds, and the line is a profile: ", stdout);
+    print_line_of(package, inputs[1].length);
+    print_fingerprint(stdout, key);
     return 0;
 }

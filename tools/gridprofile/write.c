@@ -22,77 +22,122 @@ static int write_all(int file, const uint8_t *bytes, size_t length)
     return 0;
 }
 
-/* Writes and closes a new file; where that fails, it is removed. */
-static int fill(int file, const char *name, mode_t mode, const uint8_t *bytes, size_t length)
+/* Says why a file is not written, with the system's own reason. */
+static int trouble(const struct output *output, const char *what)
 {
-    int failed = write_all(file, bytes, length) != 0 || fchmod(file, mode) != 0 || fsync(file) != 0;
-    int reason = errno;
-    if (close(file) != 0 && !failed) {
-        failed = 1;
-        reason = errno;
-    }
-    if (failed)
+    char why[160];
+    (void)snprintf(why, sizeof why, "%s%s", what, strerror(errno));
+    return file_trouble("write", output->path, why);
+}
+
+/* Where the owner of what is replaced cannot be kept, nothing is: a file that changes hands may shut
+ * its readers out. */
+static int keep_owner(const struct output *output, int file)
+{
+    struct stat made;
+    if (!output->exists)
+        return 0;
+    if (fstat(file, &made) != 0)
+        return -1;
+    if (made.st_uid == output->owner && made.st_gid == output->group)
+        return 0;
+    return fchown(file, output->owner, output->group);
+}
+
+/* Writes and closes a new file; where that fails, it is removed. The owner comes first, since
+ * changing it can take permissions away. */
+static int fill(const struct output *output, int file, const char *name, const uint8_t *bytes,
+                size_t length)
+{
+    int status = 0;
+    if (keep_owner(output, file) != 0)
+        status = trouble(output, "its owner cannot be kept: ");
+    else if (write_all(file, bytes, length) != 0 || fchmod(file, output->mode) != 0 ||
+             fsync(file) != 0)
+        status = trouble(output, "");
+    if (close(file) != 0 && status == 0)
+        status = trouble(output, "");
+    if (status != 0)
         (void)unlink(name);
-    errno = reason;
-    return failed ? -1 : 0;
+    return status;
 }
 
 /* Writes a new file beside the target, and its name to `name`, which has PATH_MAX bytes. */
 static int write_beside(const struct output *output, char *name, const uint8_t *bytes, size_t length)
 {
-    int size = snprintf(name, PATH_MAX, "%s/.gridprofile-XXXXXX", output->folder), file;
-    if (size < 0 || size >= PATH_MAX) {
-        errno = ENAMETOOLONG;
-        return -1;
-    }
+    int size = snprintf(name, PATH_MAX, "%s/%sXXXXXX", output->folder, unfinished), file;
+    if (size < 0 || size >= PATH_MAX)
+        return file_trouble("write", output->path, strerror(ENAMETOOLONG));
     file = mkstemp(name);
-    return file < 0 ? -1 : fill(file, name, output->mode, bytes, length);
+    return file < 0 ? trouble(output, "") : fill(output, file, name, bytes, length);
 }
 
-/* Makes the new name last through a loss of power. Where a file system cannot do that for a folder,
- * the file is whole all the same. */
-static void settle(const struct output *output)
+/* Gives the file its name. Where there was none by this name, none that came since is replaced; a
+ * file system that cannot promise that gets a second name for the file, which it refuses likewise. */
+static int place(const struct output *output, const char *name)
 {
-    int folder = open(output->folder, O_RDONLY | O_DIRECTORY | O_CLOEXEC);
-    if (folder < 0)
-        return;
-    (void)fsync(folder);
-    (void)close(folder);
-}
-
-static int replace(const struct output *output, const uint8_t *bytes, size_t length)
-{
-    char name[PATH_MAX];
-    if (write_beside(output, name, bytes, length) != 0)
-        return file_trouble("write", output->path, strerror(errno));
-    if (rename(name, output->target) != 0) {
-        int reason = errno;
-        (void)unlink(name);
-        return file_trouble("write", output->path, strerror(reason));
-    }
-    settle(output);
+    if (output->exists)
+        return rename(name, output->target);
+    if (renameat2(AT_FDCWD, name, AT_FDCWD, output->target, RENAME_NOREPLACE) == 0)
+        return 0;
+    if (errno != EINVAL && errno != ENOSYS)
+        return -1;
+    if (link(name, output->target) != 0)
+        return -1;
+    (void)unlink(name);
     return 0;
 }
 
-int write_output(const struct output *output, const uint8_t *bytes, size_t length)
+/* The new name is made to last through a loss of power. Where a file system cannot do that for a
+ * folder, the file is whole all the same. */
+static int replace(const struct output *output, const uint8_t *bytes, size_t length)
+{
+    char name[PATH_MAX];
+    int status = write_beside(output, name, bytes, length);
+    if (status != 0)
+        return status;
+    if (place(output, name) != 0) {
+        status = trouble(output, "");
+        (void)unlink(name);
+        return status;
+    }
+    (void)fsync(output->lock);
+    return 0;
+}
+
+static int write_stream(const uint8_t *bytes, size_t length)
+{
+    if (write_all(STDOUT_FILENO, bytes, length) != 0)
+        return file_trouble("write", "standard output", strerror(errno));
+    return 0;
+}
+
+int write_output(struct output *output, const uint8_t *bytes, size_t length)
 {
     sigset_t all, before;
     int status;
-    if (is_stream(output->path)) {
-        status = write_all(STDOUT_FILENO, bytes, length);
-        return status == 0 ? 0 : file_trouble("write", "standard output", strerror(errno));
-    }
-    /* an interruption between the two steps would leave the temporary file */
+    if (is_stream(output->path))
+        return write_stream(bytes, length);
+    status = lock_output(output);
+    if (status != 0)
+        return status;
+    /* an interruption between the two steps would leave the temporary file until the next run */
     (void)sigfillset(&all);
     (void)sigprocmask(SIG_BLOCK, &all, &before);
     status = replace(output, bytes, length);
     (void)sigprocmask(SIG_SETMASK, &before, NULL);
+    unlock_output(output);
     return status;
 }
 
-int finish_text(void)
+/* Where the text only tells of a file that is written, that it cannot be written is no failure. */
+int finish_text(int is_report)
 {
-    if (fflush(stdout) != 0 || ferror(stdout))
-        return file_trouble("write", "standard output", strerror(errno));
-    return 0;
+    if (fflush(stdout) == 0 && !ferror(stdout))
+        return 0;
+    if (is_report) {
+        warn("standard output", "it cannot be written; what was asked for is done all the same");
+        return 0;
+    }
+    return file_trouble("write", "standard output", strerror(errno));
 }

@@ -1,0 +1,97 @@
+/* The lock on an output's folder. It is on the folder, since the file itself is replaced, and ends
+ * with the program. Temporary files are made only under it, so that whoever has it knows that those
+ * which are there are left over from a run that was killed. */
+#include "program.h"
+
+#include <dirent.h>
+#include <errno.h>
+#include <fcntl.h>
+#include <string.h>
+#include <sys/file.h>
+#include <sys/stat.h>
+#include <time.h>
+#include <unistd.h>
+
+enum { TURNS_A_SECOND = 20 };
+
+/* How the names of temporary files begin; six letters or digits follow. */
+const char *const unfinished = ".gridprofile-unfinished-";
+
+static void pause_a_turn(void)
+{
+    const struct timespec turn = {0, 1000000000L / TURNS_A_SECOND};
+    (void)nanosleep(&turn, NULL);
+}
+
+/* A folder that cannot be locked, on a file system without locks for instance, is no reason not to
+ * write there, where nothing is lost by it. */
+static int cannot_lock(struct output *output)
+{
+    int reason = errno;
+    unlock_output(output);
+    return output->must_lock ? file_trouble("lock the folder of", output->path, strerror(reason))
+                             : 0;
+}
+
+/* Tries until the time is over, and says so once where it takes more than a second. */
+static int wait_for_lock(struct output *output)
+{
+    unsigned long turns = (unsigned long)output->wait * TURNS_A_SECOND;
+    for (unsigned long turn = 0; flock(output->lock, LOCK_EX | LOCK_NB) != 0; turn++) {
+        if (errno != EWOULDBLOCK && errno != EINTR)
+            return cannot_lock(output);
+        if (turn >= turns) {
+            unlock_output(output);
+            return file_trouble("write", output->path,
+                                "another program holds the lock on its folder; try again later");
+        }
+        if (turn == TURNS_A_SECOND)
+            warn(output->path, "another program holds the lock on its folder; waiting");
+        pause_a_turn();
+    }
+    return 0;
+}
+
+/* Removes what is ours, is plain and has such a name. Where that fails it does no harm. */
+static void remove_leftover(int folder, const char *name)
+{
+    struct stat found;
+    size_t length = strlen(unfinished);
+    if (strncmp(name, unfinished, length) != 0 || strlen(name) != length + 6)
+        return;
+    if (fstatat(folder, name, &found, AT_SYMLINK_NOFOLLOW) == 0 && S_ISREG(found.st_mode) &&
+        found.st_uid == geteuid())
+        (void)unlinkat(folder, name, 0);
+}
+
+static void remove_leftovers(const char *path, int folder)
+{
+    DIR *names = opendir(path);
+    struct dirent *entry;
+    if (names == NULL)
+        return;
+    while ((entry = readdir(names)) != NULL)
+        remove_leftover(folder, entry->d_name);
+    (void)closedir(names);
+}
+
+int lock_output(struct output *output)
+{
+    int status;
+    if (is_stream(output->path) || output->lock >= 0)
+        return 0;
+    output->lock = open(output->folder, O_RDONLY | O_DIRECTORY | O_CLOEXEC);
+    if (output->lock < 0)
+        return cannot_lock(output);
+    status = wait_for_lock(output);
+    if (output->lock >= 0)
+        remove_leftovers(output->folder, output->lock);
+    return status;
+}
+
+void unlock_output(struct output *output)
+{
+    if (output->lock >= 0)
+        (void)close(output->lock);
+    output->lock = -1;
+}

@@ -1,0 +1,71 @@
+/* Words sorted into arguments and options. */
+#include "program.h"
+
+#include <stdlib.h>
+#include <string.h>
+
+/* A loading run takes a fraction of a second. */
+enum { WAIT_SECONDS = 30, MOST_WAIT_SECONDS = 86400 };
+
+/* The place of an option's value, or NULL for one that has none or is none. */
+static const char **value_of(struct request *request, const char *option)
+{
+    if (strcmp(option, "--given-master-seed") == 0)
+        return &request->given_master;
+    if (strcmp(option, "--given-salt") == 0)
+        return &request->given_salt;
+    return strcmp(option, "--key") == 0 ? &request->key : NULL;
+}
+
+static int read_wait(struct request *request, const char *text)
+{
+    size_t digits = strspn(text, "0123456789");
+    unsigned long seconds = digits > 0 && digits < 6 ? strtoul(text, NULL, 10) : MOST_WAIT_SECONDS + 1;
+    if (text[digits] != '\0' || seconds > MOST_WAIT_SECONDS)
+        return wrong_usage(request->command, "--wait takes a number of seconds up to 86400, not ",
+                           text);
+    request->wait = (unsigned)seconds;
+    return 0;
+}
+
+/* Takes an option, and the word after it where that is its value; answers 0 or the exit status. */
+static int read_option(struct request *request, char ***words)
+{
+    const char *option = **words, *value = (*words)[1];
+    const char **place = value_of(request, option);
+    if (!takes_option(request->command, option))
+        return wrong_usage(request->command, "there is no option ", option);
+    if (strcmp(option, "--force") == 0) {
+        request->force = 1;
+        return 0;
+    }
+    if (value == NULL)
+        return wrong_usage(request->command, "a value is missing after ", option);
+    (*words)++;
+    if (place == NULL)
+        return read_wait(request, value);
+    if (*place != NULL)
+        return wrong_usage(request->command, "given twice: ", option);
+    *place = value;
+    return 0;
+}
+
+/* Options may stand anywhere; after a word `--` every word is an argument. */
+int read_request(struct request *request, char **words)
+{
+    size_t count = 0;
+    int status = 0, plain = 0;
+    request->wait = WAIT_SECONDS;
+    for (; *words != NULL && status == 0; words++) {
+        const char *word = *words;
+        if (!plain && strcmp(word, "--") == 0)
+            plain = 1;
+        else if (!plain && word[0] == '-' && word[1] != '\0')
+            status = read_option(request, &words);
+        else if (count + 1 < COUNT(request->arguments))
+            request->arguments[count++] = *words;
+        else
+            status = wrong_usage(request->command, "too many arguments", "");
+    }
+    return status;
+}

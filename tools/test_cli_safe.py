@@ -1,0 +1,462 @@
+"""What the command-line program does so that nobody is hurt: seeds that it draws, arguments that are exchanged or
+reused, files that it does not replace, faults of the machine, locks, what killed runs leave, small stacks."""
+
+import fcntl
+import itertools
+import os
+import resource
+import signal
+import stat
+import subprocess
+import threading
+import time
+
+from cli_case import (ARCHIVE, FILE_TROUBLE, GIVEN, IMAGE, LINE, MASTER, NO_RANDOM_BYTES, PRIVATE, PROGRAM, ROOT, SALT,
+                      SELF_CHECK_FAILED, SIGNATURE, WRONG_USAGE, Case, fingerprint, line_of, sealed, shake)
+from test_cli_files import HIDDEN, NOBODY, WRITES_OUTPUT, Memory
+
+EMPTY = sealed(bytes(IMAGE))
+UNFINISHED = ".gridprofile-unfinished-"
+
+# Stands between the program and what it relies on. Random bytes come from a file, five at a time and with
+# interruptions, and end where it ends. A package is made with a bit changed, or with the private seed in it. The run is
+# killed where its new file would get its name.
+PLANTED = r"""
+#define _GNU_SOURCE
+#include <errno.h>
+#include <fcntl.h>
+#include <signal.h>
+#include <stdlib.h>
+#include <string.h>
+#include <unistd.h>
+#include "gridprofile.h"
+
+ssize_t __wrap_getrandom(void *out, size_t length, unsigned flags);
+ssize_t __wrap_getrandom(void *out, size_t length, unsigned flags)
+{
+    static int file = -1, turn;
+    ssize_t got;
+    (void)flags;
+    errno = EINTR;
+    if (turn++ % 2 == 1)
+        return -1;
+    if (file < 0)
+        file = open(getenv("PLANTED_RANDOM"), O_RDONLY);
+    got = read(file, out, length < 5 ? length : 5);
+    errno = ENOSYS;
+    return got > 0 ? got : -1;
+}
+
+int __real_renameat2(int from, const char *old, int to, const char *new, unsigned flags);
+int __wrap_renameat2(int from, const char *old, int to, const char *new, unsigned flags);
+int __wrap_renameat2(int from, const char *old, int to, const char *new, unsigned flags)
+{
+    if (getenv("PLANTED_KILL") != NULL)
+        (void)raise(SIGKILL);
+    if (getenv("PLANTED_OLD_FILE_SYSTEM") == NULL)
+        return __real_renameat2(from, old, to, new, flags);
+    errno = EINVAL;
+    return -1;
+}
+
+#define ARGUMENTS const uint8_t *seed, size_t seed_length, const uint8_t *master, size_t master_length,               \
+    const uint8_t *salt, size_t salt_length, const uint8_t *line, size_t line_length, uint8_t *package, size_t room,  \
+    size_t *length
+uint8_t __real_gridprofile_make_package(ARGUMENTS);
+uint8_t __wrap_gridprofile_make_package(ARGUMENTS);
+uint8_t __wrap_gridprofile_make_package(ARGUMENTS)
+{
+    uint8_t answer = __real_gridprofile_make_package(seed, seed_length, master, master_length, salt, salt_length, line,
+                                                     line_length, package, room, length);
+    if (getenv("PLANTED_FAULT") != NULL)
+        package[atoi(getenv("PLANTED_FAULT"))] ^= 4;
+    if (getenv("PLANTED_LEAK") != NULL)
+        memcpy(package + atoi(getenv("PLANTED_LEAK")), seed + 3, 16);
+    return answer;
+}
+"""
+WRAPPED = "-Wl,--wrap=getrandom,--wrap=renameat2,--wrap=gridprofile_make_package"
+BUILT = []
+
+
+class Planted(Case):
+    """A test of the program with what stands between, which is built once."""
+
+    def setUp(self):
+        super().setUp()
+        if not BUILT:
+            sources = os.path.join(ROOT, "tools/gridprofile")
+            names = [os.path.join(sources, name) for name in sorted(os.listdir(sources)) if name.endswith(".c")]
+            program = os.path.join(ROOT, "target/planted/gridprofile")
+            os.makedirs(os.path.dirname(program), exist_ok=True)
+            with open(program + ".c", "w", encoding="ascii") as file:
+                file.write(PLANTED)
+            gcc = ["gcc", "-std=c11", "-O2", "-Wall", "-Wextra", "-Werror", "-I", os.path.join(ROOT, "include"), *names,
+                   program + ".c", ARCHIVE, WRAPPED, "-o", program]
+            subprocess.run(gcc, check=True)
+            BUILT.append(program)
+        self.program = BUILT[0]
+        self.put("random", shake(b"random bytes", 1000))
+
+    def run_in(self, *words, **options):
+        planted = {f"PLANTED_{name}": str(value) for name, value in options.pop("planted", {}).items()}
+        options["env"] = {**os.environ, "PLANTED_RANDOM": self.path("random"), **planted}
+        return super().run_in(*words, **options)
+
+
+class NewKey(Case):
+    def test_seed_and_its_key(self):
+        said = self.done("new-key", "private", "key", preexec_fn=lambda: os.umask(0))
+        private, key = self.get("private"), self.get("key")
+        self.assertEqual((len(private), len(key)), (32, 77))
+        self.assertEqual(stat.S_IMODE(os.stat(self.path("private")).st_mode), 0o600)
+        self.assertEqual(said.decode(), fingerprint(key))
+        self.assertEqual(self.warned("key", "private", "-")[0], key)
+        self.done("new-key", "private2", "key2")
+        self.assertNotEqual(self.get("private2"), private)
+
+    def test_private_seed_is_never_written_over_a_file(self):
+        for data in (b"", PRIVATE, b"x" * 50, bytes(77), EMPTY):
+            self.put("there", data)
+            for options in ([], ["--force"]):
+                self.assertIn("cannot write there: it exists", self.troubled(FILE_TROUBLE, "new-key", "there", "key",
+                                                                              *options))
+
+    def test_no_seed_is_left_without_its_key(self):
+        for data, options in ((b"", []), (bytes(77), []), (PRIVATE, ["--force"]), (EMPTY, ["--force"])):
+            self.put("key", data)
+            self.troubled(FILE_TROUBLE, "new-key", "private", "key", *options)
+        self.troubled(FILE_TROUBLE, "new-key", "private", "./../" + os.path.basename(self.folder) + "/private")
+        self.troubled(FILE_TROUBLE, "new-key", "private", "./private", "--force")
+        self.put("key", bytes(77))
+        self.done("new-key", "private", "key", "--force")
+        self.assertEqual(self.get("key"), self.warned("key", "private", "-")[0])
+
+    def test_wrong_places(self):
+        self.assertIn("to a file alone", self.troubled(WRONG_USAGE, "new-key", "-", "key"))
+        self.assertIn("the same file", self.troubled(WRONG_USAGE, "new-key", "a", "a"))
+
+
+class Drawn(Planted):
+    """Seeds that the program draws, from a source that the test knows."""
+
+    def test_private_seed_is_what_the_system_gave(self):
+        self.done("new-key", "private", "key")
+        self.assertEqual(self.get("private"), self.get("random")[:32])
+
+    def test_package_is_that_of_the_drawn_seeds(self):
+        self.package()
+        drawn = self.get("random")
+        self.done("sign", "private", "line", "drawn")
+        self.put("master", drawn[:16]), self.put("salt", drawn[16:48])
+        self.done("sign", "private", "line", "given", *GIVEN)
+        self.assertEqual(self.get("drawn"), self.get("given"))
+        self.assertEqual(self.get("drawn")[:32], drawn[16:48])
+
+    def test_system_that_gives_too_few_bytes(self):
+        self.package()
+        for size, words in ((0, ["new-key", "a", "b"]), (31, ["new-key", "a", "b"]), (15, ["sign", "private", "line", "a"]),
+                            (47, ["sign", "private", "line", "a"])):
+            self.put("random", PRIVATE[:1] * size)
+            self.assertIn("no random bytes", self.troubled(NO_RANDOM_BYTES, *words))
+
+    def test_system_that_gives_the_same_bytes(self):
+        self.package()
+        for data, told in ((bytes(48), "MASTER and SALT"), (MASTER + PRIVATE, "PRIVATE and SALT"),
+                           (PRIVATE[5:21] + SALT, "PRIVATE and MASTER")):
+            self.put("random", data)
+            self.assertIn(told + " share bytes", self.troubled(WRONG_USAGE, "sign", "private", "line", "out"))
+
+    def test_two_signatures_of_a_line_differ(self):
+        self.package()
+        made = []
+        for name in ("one", "two"):
+            subprocess.run([PROGRAM, "sign", "private", "line", name], cwd=self.folder, check=True, capture_output=True)
+            self.done("verify", "key", name)
+            made.append(self.get(name))
+        self.assertNotEqual(made[0][:32], made[1][:32])
+        self.assertNotEqual(made[0][32:SIGNATURE], made[1][32:SIGNATURE])
+
+
+class Faults(Planted):
+    def test_package_that_does_not_verify_is_not_written(self):
+        self.package()
+        for at in (0, 31, 32, 95, 96, 500, 9000, SIGNATURE - 1, SIGNATURE + 9):
+            for options in ((), GIVEN):
+                said = self.troubled(SELF_CHECK_FAILED, "sign", "private", "line", "out", *options,
+                                     planted={"FAULT": at})
+                self.assertIn("does not verify", said)
+            self.assertEqual(self.run_in("sign", "private", "line", "-", planted={"FAULT": at}).stdout, b"")
+
+    def test_package_with_a_seed_in_it_is_not_written(self):
+        self.package()
+        for at in (0, 16, 32, 5000, SIGNATURE - 16):
+            said = self.troubled(WRONG_USAGE, "sign", "private", "line", "out", planted={"LEAK": at})
+            self.assertIn("the bytes of a seed would stand in the package", said)
+
+    def test_what_a_killed_run_left_is_removed_by_the_next(self):
+        self.package()
+        for words in (["sign", "private", "line", "out"], ["key", "private", "out"], ["new-key", "fresh", "out"],
+                      ["new-store", "out"]):
+            before = self.names()
+            ran = self.run_in(*words, planted={"KILL": 1})
+            self.assertEqual(ran.returncode, -signal.SIGKILL)
+            left = set(self.names()) - set(before)
+            self.assertEqual([name.startswith(UNFINISHED) for name in left], [True])
+            self.assertEqual(stat.S_IMODE(os.stat(self.path(left.pop())).st_mode) & 0o077,
+                             0 if words[0] == "new-key" else 0o044)
+            self.done(*words)
+            self.assertEqual([name for name in self.names() if name.startswith(UNFINISHED)], [])
+            os.remove(self.path("out"))
+
+    def test_file_system_that_cannot_refuse_by_name(self):
+        self.package()
+        self.done("sign", "private", "line", "out", planted={"OLD_FILE_SYSTEM": 1})
+        self.done("verify", "key", "out")
+        self.assertEqual([name for name in self.names() if name.startswith(UNFINISHED)], [])
+
+
+class DrawnSecrets(Planted, Memory):
+    def test_drawn_seeds_are_wiped_before_the_output(self):
+        self.key(HIDDEN[0]), self.put("line", LINE)
+        self.put("random", HIDDEN[1] + SALT)
+        self.start("sign", "private", "line", "-", env={**os.environ, "PLANTED_RANDOM": self.path("random")})
+        after = self.memory_at(WRITES_OUTPUT)
+        package = self.written()
+        self.assertIn(package, after)
+        secrets = self.key_secrets() + self.round_secrets(package)
+        self.assertEqual([secret.hex() for secret in secrets if secret in after], [])
+
+
+class Exchanged(Case):
+    def sign(self, private="private", master="master", salt="salt", key="key"):
+        return ["sign", private, "line", "out", "--key", key, "--given-master-seed", master, "--given-salt", salt]
+
+    def test_private_seed_in_the_place_of_the_salt(self):
+        self.package()
+        self.assertIn("KEY is not the public key of PRIVATE",
+                      self.troubled(WRONG_USAGE, *self.sign("salt", "master", "private")))
+        self.put("copy", PRIVATE)
+        self.assertIn("PRIVATE and SALT share bytes", self.troubled(WRONG_USAGE, *self.sign(salt="copy")))
+
+    def test_seeds_that_share_bytes(self):
+        self.package()
+        for at in range(17):
+            self.put("part", PRIVATE[at:at + 16]), self.put("part-salt", SALT[at:at + 16])
+            self.assertIn("PRIVATE and MASTER share", self.troubled(WRONG_USAGE, *self.sign(master="part")))
+            self.assertIn("MASTER and SALT share", self.troubled(WRONG_USAGE, *self.sign(master="part-salt")))
+        for salt in (PRIVATE[16:] + SALT[:16], SALT[:16] + PRIVATE[:16], SALT[:7] + PRIVATE[9:25] + SALT[:9]):
+            self.put("mixed", salt)
+            self.assertIn("PRIVATE and SALT share", self.troubled(WRONG_USAGE, *self.sign(salt="mixed")))
+        self.put("near", SALT[:7] + PRIVATE[9:24] + SALT[:10])
+        self.done(*self.sign(salt="near"))
+
+    def test_given_seeds_come_with_one_another_and_the_key(self):
+        self.package()
+        whole = self.sign()
+        for at in (4, 6, 8):
+            said = self.troubled(WRONG_USAGE, *whole[:at], *whole[at + 2:])
+            self.assertIn("given seeds are a master seed, a salt and the key", said)
+
+    def test_key_that_is_named_must_be_the_own(self):
+        self.package(), self.put("own", self.get("key"))
+        self.key(bytes(32), "other"), self.put("private", PRIVATE)
+        self.assertIn("KEY is not", self.troubled(WRONG_USAGE, "sign", "private", "line", "out", "--key", "other"))
+        self.done("sign", "private", "line", "out", "--key", "own")
+
+    def test_any_order_of_arguments_spares_seeds_keys_and_stores(self):
+        """Every command with every choice of files: no seed, key or store is lost, and no seed stands elsewhere."""
+        self.package(private=HIDDEN[0], master=HIDDEN[1]), self.put("store", EMPTY)
+        kept = {name: self.get(name) for name in ("private", "master", "salt", "key", "store", "line", "package")}
+        names = [*kept, "out"]
+        for command, count in (("sign", 3), ("key", 2), ("new-key", 2), ("new-store", 1)):
+            for words in itertools.product(names, repeat=count):
+                for options in ((), ("--force",)):
+                    self.run_in(command, *words, *options)
+                    self.check_kept(kept, (command, *words, *options))
+
+    def check_kept(self, kept, words):
+        """What was there is there, but for what --force asks for; each file is then put back."""
+        same_kind = {"key": "key", "new-key": "key", "new-store": "store"}.get(words[0])
+        for name in self.names():
+            data = self.get(name)
+            if name != "private":
+                self.assertNotIn(HIDDEN[0][:16], data, words)
+                self.assertNotIn(HIDDEN[0][16:], data, words)
+            if name not in kept:
+                os.remove(self.path(name))
+            elif data != kept[name]:
+                self.assertIn("--force", words)
+                self.assertIn(name, ("line", "package", same_kind), words)
+                self.put(name, kept[name])
+        self.assertEqual(set(self.names()), set(kept), words)
+
+
+class Existing(Case):
+    def writers(self):
+        self.package()
+        return {"key": ["key", "private", "out"], "package": ["sign", "private", "line", "out"],
+                "store": ["new-store", "out"], "new key": ["new-key", "fresh", "out"]}
+
+    def test_existing_output_is_replaced_only_when_asked(self):
+        for words in self.writers().values():
+            self.put("out", b"something else")
+            said = self.troubled(FILE_TROUBLE, *words)
+            self.assertIn("cannot write out: it exists; --force replaces it", said)
+            self.done(*words, "--force")
+            self.assertNotEqual(self.get("out"), b"something else")
+
+    def drop(self, name):
+        if name in self.names():
+            os.remove(self.path(name))
+
+    def test_seeds_keys_and_stores_are_never_replaced_by_something_else(self):
+        sizes = {16: "a master seed", 32: "a private seed", 77: "a public key", 1056: "a store", 1024: "a store"}
+        own = {"key": (77,), "new key": (77,), "package": (), "store": (1024, 1056)}
+        for kind, words in self.writers().items():
+            for size, name in sizes.items():
+                self.put("out", bytes(size))
+                if size in own[kind]:
+                    self.done(*words, "--force")
+                    self.assertNotEqual(self.get("out"), bytes(size))
+                    self.drop("fresh")
+                else:
+                    said = self.troubled(FILE_TROUBLE, *words, "--force")
+                    self.assertIn(f"it exists and has the size of {name}", said)
+
+    def test_file_that_comes_meanwhile_is_not_replaced(self):
+        """The line comes by a pipe, so that the program waits for it after it has found its output."""
+        self.package()
+        os.mkfifo(self.path("pipe"))
+        process = subprocess.Popen([PROGRAM, "sign", "private", "pipe", "out"], cwd=self.folder, stdout=subprocess.PIPE,
+                                   stderr=subprocess.PIPE)
+        with open(self.path("pipe"), "wb") as pipe:
+            self.put("out", b"another run's")
+            pipe.write(LINE)
+        said = process.communicate(timeout=60)[1]
+        self.assertEqual((process.returncode, self.get("out")), (FILE_TROUBLE, b"another run's"))
+        self.assertIn(b"cannot write out: File exists", said)
+        self.assertEqual([name for name in self.names() if name.startswith(UNFINISHED)], [])
+
+
+class Readable(Case):
+    def test_seed_that_others_can_read_gets_a_warning(self):
+        self.package()
+        for mode, warns in ((0o644, True), (0o640, True), (0o604, True), (0o600, False), (0o400, False)):
+            for name, words in (("private", ["key", "private", "out"]), ("private", ["sign", "private", "line", "out"]),
+                                ("master", ["sign", "private", "line", "out", *GIVEN])):
+                for file in ("private", "master"):
+                    os.chmod(self.path(file), 0o600)
+                os.chmod(self.path(name), mode)
+                ran = self.run_in(*words)
+                self.assertEqual(ran.returncode, 0)
+                os.remove(self.path("out"))
+                told = f"warning: {name}: this seed is secret, but others can read it".encode() in ran.stderr
+                self.assertEqual((told, ran.stderr != b""), (warns, warns), (mode, words))
+
+
+class Locks(Case):
+    def lock(self, seconds=None):
+        """Locks the folder as another program would, for so long."""
+        folder = os.open(self.folder, os.O_RDONLY)
+        fcntl.flock(folder, fcntl.LOCK_EX)
+        if seconds is None:
+            self.addCleanup(os.close, folder)
+        else:
+            timer = threading.Timer(seconds, os.close, [folder])
+            timer.start()
+            self.addCleanup(timer.join)
+
+    def writers(self):
+        self.package(), self.store()
+        return (["load", "store", "key", "package", "XA", "B"], ["key", "private", "out"], ["new-store", "empty"],
+                ["sign", "private", "line", "signed"], ["new-key", "fresh", "fresh.key"])
+
+    def test_lock_is_waited_for_so_long(self):
+        writers = self.writers()
+        self.lock()
+        for words in writers:
+            self.assertIn("another program holds the lock", self.troubled(FILE_TROUBLE, *words, "--wait", "0"))
+        start = time.monotonic()
+        said = self.troubled(FILE_TROUBLE, *writers[0], "--wait", "2")
+        self.assertGreaterEqual(time.monotonic() - start, 1.9)
+        self.assertEqual([line.split(": ", 1)[1] for line in said.splitlines()],
+                         ["warning: store: another program holds the lock on its folder; waiting",
+                          "cannot write store: another program holds the lock on its folder; try again later"])
+
+    def test_lock_that_is_given_up(self):
+        writers = self.writers()
+        self.lock(1.6)
+        _, said = self.warned(*writers[0])
+        self.assertEqual(said.count("waiting"), 1)
+        self.assertEqual(self.done("lookup", "store", "XA", "B"), LINE)
+        self.lock(0.2)
+        self.done(*writers[1])
+
+    def test_readers_do_not_wait(self):
+        self.store(LINE)
+        self.lock()
+        self.assertEqual(self.done("lookup", "store", "XA", "B"), LINE)
+        self.done("show", "store")
+
+    def test_only_left_over_files_are_removed(self):
+        self.put("private", PRIVATE)
+        other = ["unfinished-abc123", ".gridprofile-backup", UNFINISHED + "abc12", UNFINISHED + "abc1234", "x" + UNFINISHED]
+        for name in other:
+            self.put(name, b"mine")
+        os.mkdir(self.path(UNFINISHED + "folder"))
+        os.symlink("private", self.path(UNFINISHED + "linked"))
+        if os.getuid() == 0:
+            other.append(self.put(UNFINISHED + "others", b"theirs"))
+            os.chown(self.path(UNFINISHED + "others"), NOBODY, NOBODY)
+        kept = {*self.names(), "key"}
+        self.put(UNFINISHED + "abc123", b"left"), self.put(UNFINISHED + "ABCdef", b"")
+        self.done("key", "private", "key")
+        self.assertEqual(set(self.names()), kept)
+
+    def test_a_run_that_waits_leaves_what_another_writes(self):
+        """What another run has begun under the lock is there until that gives the lock up."""
+        self.put("private", PRIVATE)
+        self.lock()
+        self.put(UNFINISHED + "abc123", b"being written")
+        self.troubled(FILE_TROUBLE, "key", "private", "key", "--wait", "0")
+
+
+class SmallStack(Case):
+    def test_every_command(self):
+        self.package(), self.store()
+        for kilobytes in (200, 100):
+            size = kilobytes * 1024
+            small = {"preexec_fn": lambda limit=size: resource.setrlimit(resource.RLIMIT_STACK, (limit, limit))}
+            name = f"at{kilobytes}-"
+            self.done("new-key", name + "private", name + "key", **small)
+            self.done("key", "private", name + "same", **small)
+            self.done("sign", "private", "line", name + "package", **small)
+            self.done("verify", "key", name + "package", **small)
+            self.done("new-store", name + "store", **small)
+            self.done("load", name + "store", "key", name + "package", "XA", "B", **small)
+            self.assertEqual(self.done("lookup", name + "store", "XA", "B", **small), LINE)
+            self.done("show", name + "store", **small)
+            self.assertIn(b"XA,B,12", self.done("preview", "line", **small))
+
+
+class Many(Case):
+    def test_runs_at_the_same_time_in_one_folder(self):
+        """Writers of different files in one folder, each of which clears what it takes for left over."""
+        self.package()
+        runs = [subprocess.Popen([PROGRAM, "sign", "private", "line", f"out{at}"], cwd=self.folder,
+                                 stdout=subprocess.DEVNULL) for at in range(12)]
+        self.assertEqual([run.wait(60) for run in runs], [0] * 12)
+        for at in range(12):
+            self.done("verify", "key", f"out{at}")
+        self.assertEqual([name for name in self.names() if name.startswith(UNFINISHED)], [])
+
+    def test_one_of_many_makes_the_file(self):
+        self.package()
+        runs = [subprocess.Popen([PROGRAM, "new-key", f"private{at}", "pub"], cwd=self.folder,
+                                 stdout=subprocess.DEVNULL, stderr=subprocess.DEVNULL) for at in range(8)]
+        statuses = sorted(run.wait(60) for run in runs)
+        self.assertEqual(statuses, [0] + [FILE_TROUBLE] * 7)
+        left = [name for name in self.names() if name.startswith("private") and name != "private"]
+        self.assertEqual(len(left), 1)
+        self.assertEqual(self.warned("key", left[0], "-")[0], self.get("pub"))
