@@ -26,8 +26,8 @@ enum model {
 };
 
 static const char *const model_names[MODELS] = {
-    "keeps old", "has new",      "old and new", "garbage", "garbage in the bank",
-    "bits of both", "unreadable",
+    "keeps old",           "has new",      "old and new", "garbage",
+    "garbage in the bank", "bits of both", "unreadable",
 };
 
 /* `next` is the lowest offset that may be programmed: an erase that was cut allows none. */
@@ -107,8 +107,15 @@ static void change(unsigned bank, size_t at, uint8_t wanted, bool erasing)
     flash.unreadable[bank][at] = false;
 }
 
+static void expect_inside(unsigned bank, size_t offset, size_t length)
+{
+    expect(bank < BANKS_COUNT && offset <= RECORD && length <= RECORD - offset,
+           "only the bytes of the two banks are used");
+}
+
 static bool erase(unsigned bank)
 {
+    expect_inside(bank, 0, RECORD);
     flash.next[bank] = RECORD;
     for (size_t at = 0; at < RECORD; at++)
         change(bank, at, BANKS_ERASED, true);
@@ -127,7 +134,7 @@ static void program_byte(unsigned bank, size_t at, uint8_t wanted)
 
 static bool program(unsigned bank, size_t offset, const uint8_t *bytes, size_t length)
 {
-    expect(offset <= RECORD && length <= RECORD - offset, "programming stays in the bank");
+    expect_inside(bank, offset, length);
     expect(flash.next[bank] <= offset, "bytes are programmed once, upward, in an erased bank");
     for (size_t at = 0; at < length; at++)
         program_byte(bank, offset + at, bytes[at]);
@@ -136,7 +143,7 @@ static bool program(unsigned bank, size_t offset, const uint8_t *bytes, size_t l
 
 static bool read(unsigned bank, size_t offset, uint8_t *bytes, size_t length)
 {
-    expect(offset <= RECORD && length <= RECORD - offset, "reading stays in the bank");
+    expect_inside(bank, offset, length);
     memcpy(bytes, flash.cells[bank] + offset, length);
     return memchr(flash.unreadable[bank] + offset, true, length) == NULL;
 }
@@ -332,11 +339,20 @@ static void every_second_cut(const struct start *start)
         cut(start, first[at], 1);
 }
 
+/* With this step each first cut is followed by one or two second ones, and each second cut comes
+ * after some first one. */
+#define STEP 1409
+
+static void every_start(void)
+{
+    for (size_t number = 0; number < STARTS; number++)
+        every_cut(&starts[number], STEP);
+}
+
 static void cuts_of_commits(void)
 {
     for (model = 0; model < MODELS; model++)
-        for (size_t number = 0; number < STARTS; number++)
-            every_cut(&starts[number], 1409);
+        every_start();
 }
 
 static void cuts_of_the_next_commit(void)
