@@ -386,7 +386,7 @@ class Locks(Case):
 
     def test_lock_that_is_given_up(self):
         writers = self.writers()
-        self.lock(1.6)
+        self.lock(3)
         _, said = self.warned(*writers[0])
         self.assertEqual(said.count("waiting"), 1)
         self.assertEqual(self.done("lookup", "store", "XA", "B"), LINE)

@@ -60,7 +60,7 @@ static void look_at(struct input *input, int file)
         return;
     if (found.st_size > 0 && (size_t)found.st_size > input->size)
         input->size = (size_t)found.st_size;
-    if (input->secret && (found.st_mode & (S_IRGRP | S_IROTH)) != 0)
+    if (input->secret && is_size_taken(input) && (found.st_mode & (S_IRGRP | S_IROTH)) != 0)
         warn(input->path, "this seed is secret, but others can read it: chmod 600");
 }
 

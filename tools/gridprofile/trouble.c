@@ -10,7 +10,8 @@ struct refusal {
 
 /* By number, from 1. */
 static const struct refusal refusals[] = {
-    {"a file has a wrong size", "give files of the sizes that `gridprofile help` lists"},
+    {"a file has a wrong size",
+     "give the files in the order of the usage; `gridprofile help` lists their sizes"},
     {"a draw from the seeds is short",
      "a seed that says this cannot be used: make another key; a package that says this is damaged "
      "or forged"},
