@@ -363,7 +363,9 @@ class Explain(Case):
                 (b"", "the line is empty"),
                 (b"GP;" + b",;\t" * 3 + b"\n", 'field 1, tag, is "GP;"; it must be GP1',
                  "the line has 4 fields; it must have 14, parted by commas"),
-                # as much as is read of a file that is too long
+                # as much as is read of a file that is too long: what comes after it is not known
+                (b"GP1,XA," + b"x" * 66, f'field 3, class, is "{"x" * 24}"...; it must be {FIELDS[2][3]}',
+                 "no line feed stands in its first 72 bytes"),
                 ((LINE[:-1] + b"," * 99)[:73], "the line has 32 fields or more; it must have 14, and no comma within a"
                  " number", "no line feed stands in its first 72 bytes")):
             self.assertEqual(self.explained([line])[0][1], said)
