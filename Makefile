@@ -1,7 +1,5 @@
-# `make test` is the merge gate; `make bench` measures the proved library beside plain programs; `make soak` compares
-# every C entry with the second program on millions of random inputs, and under memcheck on some thousands; `make demo`
-# does the main job once with the command-line program, which `make cli` builds.
-.PHONY: test bench soak memcheck demo cli
+# Plain `make` lists the targets: each by the words after `##` on its own line.
+.PHONY: help demo cli test bench soak memcheck
 
 ARCHIVE = target/staticlib/libgridprofile.a
 PROGRAM = target/cli/gridprofile
@@ -9,26 +7,42 @@ SOURCES = $(wildcard tools/gridprofile/*.c)
 SOAK = peer/target/release/soak
 MEMCHECK = valgrind -q --error-exitcode=9 --partial-loads-ok=no
 
-test:
+help: ## this list
+	@echo "make TARGET, where TARGET is one of"
+	@sed -n 's/^\([a-z]*\):.*## /    \1	/p' Makefile | expand -t 16
+
+demo: cli ## the main job once with the command-line program, each step shown
+	@tools/demo $(PROGRAM)
+
+cli: ## proves the library and builds the command-line program, target/cli/gridprofile
+	@tools/need rt gcc
+	@tools/build-archive
+	@$(MAKE) --silent $(PROGRAM)
+	@echo "The program is $(PROGRAM)."
+
+test: ## the gate: every proof from nothing, every wrong program that must be refused, every other test
+	@tools/need rt gcc g++ cargo python3
 	@tools/gate
 
-bench:
-	rt staticlib gridprofile
+bench: ## speed beside plain programs, as ratios, and stack
+	@tools/need rt gcc cargo
+	@tools/build-archive
 	gcc -std=c11 -D_GNU_SOURCE -O2 -Wall -Wextra -Werror -pedantic -I include -Wl,-z,now \
 	    peer/c/stack.c $(ARCHIVE) -o target/stack
 	cd peer && cargo run --release --offline --bin bench -- ../target/stack
 
 # SEED= repeats a run, COUNT= multiplies its inputs, ONLY= and AT= choose an entry and one of its inputs.
-soak:
-	rt staticlib gridprofile
+soak: ## every C entry beside the second program on millions of random inputs, then memcheck
+	@tools/need rt cargo
+	@tools/build-archive
 	cd peer && cargo run --release --offline --bin soak
 	@if command -v valgrind > /dev/null; then $(MAKE) --no-print-directory memcheck; \
 	else echo "make soak: SKIPPED memcheck: valgrind is not installed"; fi
 
 # Faults that are planted come first: memcheck must see each of them.
-memcheck:
-	@command -v valgrind > /dev/null || { echo "make memcheck: valgrind is not installed" >&2; exit 1; }
-	rt staticlib gridprofile
+memcheck: ## some thousands of these inputs under valgrind
+	@tools/need rt cargo valgrind
+	@tools/build-archive
 	cd peer && cargo build --release --offline --bin soak
 	@for fault in overread overwrite unset; do \
 	    $(MEMCHECK) $(SOAK) --plant $$fault > /dev/null 2>&1; \
@@ -36,14 +50,6 @@ memcheck:
 	    echo "memcheck sees a planted $$fault"; \
 	done
 	$(MEMCHECK) $(SOAK) --memcheck
-
-demo: cli
-	@tools/demo $(PROGRAM)
-
-# rt proves nothing again that has not changed.
-cli:
-	rt staticlib gridprofile
-	$(MAKE) $(PROGRAM)
 
 $(PROGRAM): $(SOURCES) tools/gridprofile/program.h include/gridprofile.h $(ARCHIVE)
 	mkdir -p $(@D)
