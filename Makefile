@@ -1,5 +1,5 @@
 # Plain `make` lists the targets: each by the words after `##` on its own line.
-.PHONY: help demo cli test bench soak memcheck
+.PHONY: help demo cli test bench size soak memcheck
 
 ARCHIVE = target/staticlib/libgridprofile.a
 PROGRAM = target/cli/gridprofile
@@ -21,7 +21,7 @@ cli: ## proves the library and builds the command-line program, target/cli/gridp
 	@echo "The program is $(PROGRAM)."
 
 test: ## the gate: every proof from nothing, every wrong program that must be refused, every other test
-	@tools/need rt gcc g++ cargo python3
+	@tools/need rt gcc g++ ld size cargo python3
 	@tools/gate
 
 bench: ## speed beside plain programs, as ratios, and stack
@@ -30,6 +30,11 @@ bench: ## speed beside plain programs, as ratios, and stack
 	gcc -std=c11 -D_GNU_SOURCE -O2 -Wall -Wextra -Werror -pedantic -I include -Wl,-z,now \
 	    peer/c/stack.c $(ARCHIVE) -o target/stack
 	cd peer && cargo run --release --offline --bin bench -- ../target/stack
+
+size: ## bytes of text that firmware links, for some choices of entries
+	@tools/need rt ld size python3
+	@tools/build-archive
+	@python3 -B tools/sizes.py
 
 # SEED= repeats a run, COUNT= multiplies its inputs, ONLY= and AT= choose an entry and one of its inputs.
 soak: ## every C entry beside the second program on millions of random inputs, then memcheck
@@ -54,9 +59,3 @@ memcheck: ## some thousands of these inputs under valgrind
 $(PROGRAM): $(SOURCES) tools/gridprofile/program.h include/gridprofile.h $(ARCHIVE)
 	mkdir -p $(@D)
 	gcc -std=c11 -O2 -Wall -Wextra -Werror -pedantic -I include $(SOURCES) $(ARCHIVE) -o $@
-
-# Bytes of text that firmware links, for some choices of entries.
-.PHONY: size
-size:
-	rt staticlib gridprofile
-	@python3 -B tools/sizes.py

@@ -1,5 +1,5 @@
 """Tests of what `make` says and where it fails: the Makefile and its scripts over a small list of crates, with
-programs in place of rt, gcc, g++, cargo and valgrind that do nothing but what these tests look at."""
+programs in place of rt, the compilers and the like that do nothing but what these tests look at."""
 
 import os
 import re
@@ -16,12 +16,14 @@ TOOLS = "awk cat dirname expand find mkdir rm sed setsid sha256sum sort tail wc"
 NEEDS = {
     "demo": ["rt", "gcc"],
     "cli": ["rt", "gcc"],
-    "test": ["rt", "gcc", "g++", "cargo", "python3"],
+    "test": ["rt", "gcc", "g++", "ld", "size", "cargo", "python3"],
     "bench": ["rt", "gcc", "cargo"],
+    "size": ["rt", "ld", "size", "python3"],
     "soak": ["rt", "cargo"],
     "memcheck": ["rt", "cargo", "valgrind"],
 }
-WHAT = {"rt": "the Rattle toolchain", "gcc": "the C compiler", "g++": "the C++ compiler", "cargo": "Rust's build tool"}
+WHAT = {"rt": "the Rattle toolchain", "gcc": "the C compiler", "g++": "the C++ compiler", "ld": "of binutils",
+        "size": "of binutils", "cargo": "Rust's build tool"}
 
 # Four crates of these are the library: one, two, three and gridprofile.
 CRATES = """# A line for each crate: its name, then the crates that it rests on.
@@ -112,7 +114,7 @@ class Make(unittest.TestCase):
             os.symlink(shutil.which(tool), os.path.join(self.path, tool))
         for name, text in {"rt": RT, "gcc": GCC, "sleep": SLEEP}.items():
             self.program(os.path.join(self.path, name), text)
-        for name in ("g++", "cargo", "valgrind", "python3"):
+        for name in ("g++", "ld", "size", "cargo", "valgrind", "python3"):
             self.program(os.path.join(self.path, name), OTHER)
 
     def file(self, path):
