@@ -56,6 +56,8 @@ memcheck: ## some thousands of these inputs under valgrind
 	done
 	$(MEMCHECK) $(SOAK) --memcheck
 
+# -z now: a function that is looked for at its first call costs a copy of the registers on the stack, where what is
+# left in them of the seeds would stay.
 $(PROGRAM): $(SOURCES) tools/gridprofile/program.h include/gridprofile.h $(ARCHIVE)
 	mkdir -p $(@D)
-	gcc -std=c11 -O2 -Wall -Wextra -Werror -pedantic -I include $(SOURCES) $(ARCHIVE) -o $@
+	gcc -std=c11 -O2 -Wall -Wextra -Werror -pedantic -I include -Wl,-z,now $(SOURCES) $(ARCHIVE) -o $@

@@ -5,9 +5,6 @@
 #include <string.h>
 #include <unistd.h>
 
-/* A draw that is short is so rare that nobody has seen one; a second is not by chance. */
-enum { TRIES = 4 };
-
 static uint8_t private_seed[GRIDPROFILE_PRIVATE_SEED_BYTES + 1], key[GRIDPROFILE_KEY_BYTES];
 static size_t private_length;
 static int answer;

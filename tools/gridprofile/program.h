@@ -91,6 +91,9 @@ extern const char *const unfinished;
 int write_output(struct output *output, const uint8_t *bytes, size_t length);
 int finish_text(int is_report);
 
+/* A draw that is short is so rare that nobody has seen one; a second is not by chance. */
+enum { TRIES = 4 };
+
 /* secret.c: `run_apart` runs the work on a stack of its own and then wipes that. */
 void keep_no_core(void);
 void wipe(void *bytes, size_t length);

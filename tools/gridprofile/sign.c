@@ -4,9 +4,6 @@
 
 #include <string.h>
 
-/* As for keys: a draw that is short is not met twice by chance. */
-enum { TRIES = 4 };
-
 /* More than a line has, so that what is wrong with a longer one can be told. */
 enum { LINE_ROOM = 1024 };
 
@@ -24,6 +21,7 @@ static struct input inputs[INPUTS];
 static size_t input_count;
 
 static int answer, own_answer;
+static const char *reused;
 
 static void list_inputs(const struct request *request)
 {
@@ -46,15 +44,6 @@ static void sign(void)
                                       inputs[MASTER].length, salt, inputs[SALT].length, line,
                                       inputs[LINE_FILE].length, package, sizeof package,
                                       &package_length);
-}
-
-/* What was made is verified before it is written: a fault of the machine while signing could give
- * the private seed away. */
-static void verify_own(void)
-{
-    own_answer = gridprofile_make_key(private_seed, inputs[PRIVATE].length, key, sizeof key);
-    if (own_answer == 0)
-        own_answer = verify_package(key, sizeof key, package, package_length);
 }
 
 static int sign_drawn(void)
@@ -88,6 +77,16 @@ static const char *reused_seed(void)
     return NULL;
 }
 
+/* What was made is verified before it is written: a fault of the machine while signing could give
+ * the private seed away. The search for seeds leaves traces of them on the stack as well. */
+static void check_own(void)
+{
+    reused = reused_seed();
+    own_answer = gridprofile_make_key(private_seed, inputs[PRIVATE].length, key, sizeof key);
+    if (own_answer == 0)
+        own_answer = verify_package(key, sizeof key, package, package_length);
+}
+
 /* Says what is wrong with the line too, where that was refused. */
 static int refuse(const struct request *request)
 {
@@ -108,7 +107,7 @@ static int refuse_own(void)
 }
 
 /* Everything that keeps the package from being written. */
-static int judge(const struct request *request, const char *reused)
+static int judge(const struct request *request)
 {
     if (answer != 0)
         return refuse(request);
@@ -120,7 +119,7 @@ static int judge(const struct request *request, const char *reused)
     return own_answer != 0 ? refuse_own() : 0;
 }
 
-static int sign_and_verify(const struct request *request, const char **reused)
+static int sign_and_check(const struct request *request)
 {
     int status = 0;
     answer = GRIDPROFILE_BAD_SIZE;
@@ -130,10 +129,8 @@ static int sign_and_verify(const struct request *request, const char **reused)
         run_apart(sign);
     else
         status = sign_drawn();
-    if (status == 0 && answer == 0) {
-        run_apart(verify_own);
-        *reused = reused_seed();
-    }
+    if (status == 0 && answer == 0)
+        run_apart(check_own);
     return status;
 }
 
@@ -154,7 +151,6 @@ static int report(struct output *output)
 
 int run_sign(const struct request *request)
 {
-    const char *reused = NULL;
     struct output output;
     int status;
     keep_no_core();
@@ -164,10 +160,10 @@ int run_sign(const struct request *request)
     list_inputs(request);
     status = prepare(&output, request, request->arguments[2], PACKAGE, inputs, input_count);
     if (status == 0)
-        status = sign_and_verify(request, &reused);
+        status = sign_and_check(request);
     wipe(private_seed, sizeof private_seed);
     wipe(master_seed, sizeof master_seed);
     if (status == 0)
-        status = judge(request, reused);
+        status = judge(request);
     return status != 0 ? status : report(&output);
 }
