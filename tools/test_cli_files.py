@@ -377,8 +377,8 @@ def exponents(block):
 
 
 def search_traces(seed):
-    """What memmem of the C library leaves on the stack when it looks for these 16 bytes: a table by two neighbours each,
-    from which they can be found. Here in pieces of four entries, since some of it may be written over."""
+    """What memmem of the C library leaves on the stack when it looks for these 16 bytes: a table with an entry for each
+    two neighbours, which tells them. Here in pieces of four entries, since some of it may be written over."""
     table = bytearray(256)
     for at in range(1, 16):
         table[(seed[at] - 8 * seed[at - 1]) % 256] = at
@@ -390,6 +390,7 @@ def search_traces(seed):
 HIDDEN = shake(b"a private seed", 32), shake(b"a master seed", 16)
 
 
+@unittest.skipUnless(os.getuid() == 0, "only root can look into the program's memory")
 class Memory(Case):
     """The program stands still before its first byte of output, at a pipe that is full, and its memory is searched."""
 
@@ -450,6 +451,15 @@ class Secrets(Memory):
         after = self.memory_at(WRITES_OUTPUT)
         self.assertIn(self.written(), after)
         self.assertEqual([secret.hex() for secret in self.key_secrets(self.get("fresh")) if secret in after], [])
+
+    def test_crash_leaves_no_core(self):
+        """Also where a seed is given by mistake. Memory that must not be dumped belongs to root, whoever runs it."""
+        for words in (["key", "-", "out"], ["verify", "-", "package"], ["show", "-"], ["preview"]):
+            self.start(*words, **unprivileged())
+            wait_for(lambda: call_of(self.process) == READS_INPUT)
+            self.assertEqual(os.stat(f"/proc/{self.process.pid}/mem").st_uid, 0)
+            with open(f"/proc/{self.process.pid}/limits", encoding="ascii") as limits:
+                self.assertRegex(limits.read(), r"Max core file size +0 +0 ")
 
     def test_never_printed(self):
         self.key(HIDDEN[0]), self.package(private=HIDDEN[0], master=HIDDEN[1])

@@ -29,7 +29,6 @@ int run_key(const struct request *request)
     struct output output;
     int status;
     inputs[0].secret = 1;
-    keep_no_core();
     status = prepare(&output, request, request->arguments[1], KEY, inputs, COUNT(inputs));
     private_length = inputs[0].length;
     if (status == 0)
@@ -71,9 +70,7 @@ static int find_places(const struct request *request, struct output *private, st
 int run_new_key(const struct request *request)
 {
     struct output private, public;
-    int status;
-    keep_no_core();
-    status = find_places(request, &private, &public);
+    int status = find_places(request, &private, &public);
     if (status == 0)
         status = draw_key();
     if (status == 0 && answer != 0)

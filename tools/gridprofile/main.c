@@ -120,6 +120,7 @@ int main(int count, char **words)
     int status, written, is_report = 0;
     occupy_streams();
     hold_signals();
+    keep_no_core(); /* for every command, since a seed may be given by mistake */
     status = run(count > 0 ? words + 1 : words, &is_report);
     written = finish_text(is_report);
     return status != 0 ? status : written;

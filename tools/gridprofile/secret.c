@@ -2,7 +2,9 @@
 #include "program.h"
 
 #include <errno.h>
+#include <stdlib.h>
 #include <string.h>
+#include <sys/prctl.h>
 #include <sys/random.h>
 #include <sys/resource.h>
 #include <ucontext.h>
@@ -14,11 +16,13 @@
 /* So many bytes in a row are not equal by chance. */
 #define TELLING_BYTES 16
 
-/* A crash must not write the seeds to a file. */
+/* A crash must not write the seeds to a file. The limit alone does not hold where the system hands
+ * what crashed to another program. */
 void keep_no_core(void)
 {
     const struct rlimit none = {0, 0};
     (void)setrlimit(RLIMIT_CORE, &none);
+    (void)prctl(PR_SET_DUMPABLE, 0);
 }
 
 /* volatile, so that the compiler does not drop writes to memory that nobody reads again. */
@@ -37,18 +41,21 @@ static void start_apart(void)
 }
 
 /* The library has no memory but the stack: on one of our own, all that it computed from the seeds can
- * be wiped, and a small limit on the program's stack does not matter. */
+ * be wiped, and a small limit on the program's stack does not matter. Work that was not done must not
+ * be taken for done. */
 void run_apart(void (*work)(void))
 {
     static _Alignas(16) uint8_t stack[STACK_BYTES];
     static ucontext_t inside, outside;
     apart = work;
-    (void)getcontext(&inside);
+    if (getcontext(&inside) != 0)
+        abort();
     inside.uc_stack.ss_sp = stack;
     inside.uc_stack.ss_size = sizeof stack;
     inside.uc_link = &outside;
     makecontext(&inside, start_apart, 0);
-    (void)swapcontext(&outside, &inside);
+    if (swapcontext(&outside, &inside) != 0)
+        abort();
     wipe(stack, sizeof stack);
     wipe(&inside, sizeof inside);
     wipe(&outside, sizeof outside);

@@ -153,7 +153,6 @@ int run_sign(const struct request *request)
 {
     struct output output;
     int status;
-    keep_no_core();
     if ((request->given_master == NULL) != (request->given_salt == NULL) ||
         (request->given_master != NULL && request->key == NULL))
         return wrong_usage(request->command, "given seeds are a master seed, a salt and the key", "");
