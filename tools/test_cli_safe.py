@@ -6,13 +6,14 @@ import itertools
 import os
 import resource
 import signal
+import socket
 import stat
 import subprocess
 import threading
 import time
 
 from cli_case import (ARCHIVE, FILE_TROUBLE, GIVEN, IMAGE, LINE, MASTER, NO_RANDOM_BYTES, PRIVATE, PROGRAM, ROOT, SALT,
-                      SELF_CHECK_FAILED, SIGNATURE, WRONG_USAGE, Case, fingerprint, line_of, sealed, shake)
+                      SELF_CHECK_FAILED, SIGNATURE, STORE, WRONG_USAGE, Case, fingerprint, line_of, sealed, shake)
 from test_cli_files import HIDDEN, NOBODY, WRITES_OUTPUT, Memory
 
 EMPTY = sealed(bytes(IMAGE))
@@ -353,6 +354,33 @@ class Readable(Case):
                 os.remove(self.path("out"))
                 told = f"warning: {name}: this seed is secret, but others can read it".encode() in ran.stderr
                 self.assertEqual((told, ran.stderr != b""), (warns, warns), (mode, words))
+
+
+class Terminal(Case):
+    NAME = b"a\x1b[2J\x07\r\n\x7f\xc2\x9b1m\x9b" + "ü€Ä😀".encode()
+    SHOWN = rb"a\x1B[2J\x07\x0D\x0A\x7F\xC2\x9B1m\x9B" + "ü€Ä😀".encode()
+
+    def test_names_give_a_terminal_no_orders(self):
+        self.package(), self.put("store", bytes(STORE)), self.put(self.path(os.fsdecode(self.NAME)), bytes(32))
+        for words in (["verify", "key", b"no" + self.NAME], ["verify", "key", self.NAME], ["show", self.NAME],
+                      ["key", self.NAME, "out"], ["key", "private", self.NAME], ["key", self.NAME, self.NAME],
+                      ["key", b"-" + self.NAME], [self.NAME], ["help", self.NAME],
+                      ["new-store", "new", "--wait", self.NAME],
+                      ["sign", "private", "line", "new", "--key", self.NAME]):
+            said = self.run_in(*words).stderr
+            self.assertIn(self.SHOWN, said, words)
+            self.assertNotRegex(said, rb"[\x00-\x09\x0b-\x1f\x7f]|\xc2[\x80-\x9f]")
+        os.rename(self.path("store"), self.path(os.fsdecode(self.NAME)))
+        self.assertIn(b"the store " + self.SHOWN + b" is damaged", self.run_in("lookup", self.NAME, "XA", "B").stderr)
+
+    def test_lines_are_said_whole(self):
+        """So that what runs beside each other say is not mixed within a line."""
+        reading, writing = socket.socketpair(socket.AF_UNIX, socket.SOCK_SEQPACKET)
+        with reading, writing:
+            self.run_in("show", self.put("private", PRIVATE), stderr=writing)
+            reading.setblocking(False)
+            self.assertEqual(reading.recv(1000), b"gridprofile show: refused with 1: private has the size of a private "
+                                                 b"seed or a salt, of which nothing is shown\n")
 
 
 class Locks(Case):

@@ -120,6 +120,7 @@ int main(int count, char **words)
     int status, written, is_report = 0;
     occupy_streams();
     hold_signals();
+    (void)setvbuf(stderr, NULL, _IOLBF, BUFSIZ); /* whole lines, also beside other runs */
     keep_no_core(); /* for every command, since a seed may be given by mistake */
     status = run(count > 0 ? words + 1 : words, &is_report);
     written = finish_text(is_report);

@@ -101,7 +101,9 @@ void run_apart(void (*work)(void));
 int draw(uint8_t *bytes, size_t length);
 int share_bytes(const uint8_t *seed, size_t seed_length, const uint8_t *bytes, size_t length);
 
-/* trouble.c: says what is wrong, and returns the exit status. `line` is the refused line, or NULL. */
+/* trouble.c: says what is wrong, and returns the exit status. `line` is the refused line, or NULL. What
+ * a user or a file system named is printed by `print_name`, on standard error. */
+void print_name(const char *name);
 int wrong_usage(const char *command, const char *what, const char *which);
 int file_trouble(const char *doing, const char *path, const char *why);
 int refused(const char *command, int answer, const struct input *inputs, size_t count,

@@ -33,6 +33,24 @@ static const struct refusal refusals[] = {
      "write them as in: XA B"},
 };
 
+/* A byte that a terminal could take for an order: of a control, also of one that UTF-8 writes as C2 80
+ * to C2 9F. Those of other characters stay. */
+static int is_order(uint8_t before, const uint8_t *at)
+{
+    if (*at == 0xC2)
+        return at[1] >= 0x80 && at[1] < 0xA0;
+    if (*at >= 0x80 && *at < 0xA0)
+        return before < 0x80 || before == 0xC2;
+    return *at < ' ' || *at == 0x7F;
+}
+
+void print_name(const char *name)
+{
+    uint8_t before = 0;
+    for (const uint8_t *at = (const uint8_t *)name; *at != '\0'; before = *at++)
+        fprintf(stderr, is_order(before, at) ? "\\x%02X" : "%c", *at);
+}
+
 void print_refusals(FILE *to)
 {
     for (size_t at = 0; at < COUNT(refusals); at++)
@@ -42,7 +60,9 @@ void print_refusals(FILE *to)
 int wrong_usage(const char *command, const char *what, const char *which)
 {
     const char *space = *command ? " " : "";
-    fprintf(stderr, "gridprofile%s%s: %s%s\n", space, command, what, which);
+    fprintf(stderr, "gridprofile%s%s: %s", space, command, what);
+    print_name(which);
+    fputc('\n', stderr);
     print_synopsis(stderr, command);
     fprintf(stderr, "`gridprofile help%s%s` says more.\n", space, command);
     return WRONG_USAGE;
@@ -50,18 +70,24 @@ int wrong_usage(const char *command, const char *what, const char *which)
 
 int file_trouble(const char *doing, const char *path, const char *why)
 {
-    fprintf(stderr, "gridprofile: cannot %s %s: %s\n", doing, path, why);
+    fprintf(stderr, "gridprofile: cannot %s ", doing);
+    print_name(path);
+    fprintf(stderr, ": %s\n", why);
     return FILE_TROUBLE;
 }
 
 void warn(const char *path, const char *what)
 {
-    fprintf(stderr, "gridprofile: warning: %s: %s\n", path, what);
+    fputs("gridprofile: warning: ", stderr);
+    print_name(path);
+    fprintf(stderr, ": %s\n", what);
 }
 
 int damaged_store(const char *path, const char *how)
 {
-    fprintf(stderr, "gridprofile: the store %s is damaged: %s\n", path, how);
+    fputs("gridprofile: the store ", stderr);
+    print_name(path);
+    fprintf(stderr, " is damaged: %s\n", how);
     fputs("  What to do: take a copy of it from before, or make a new one by `gridprofile new-store`\n"
           "  and load the newest packages again; a new store takes old serials too.\n",
           stderr);
@@ -76,8 +102,9 @@ static void print_size(const struct input *input)
     int more = input->size == input->room;
     if (is_size_taken(input))
         return;
-    fprintf(stderr, "  %s (%s) has %s%zu bytes", input->role, input->path, more ? "at least " : "",
-            input->size);
+    fprintf(stderr, "  %s (", input->role);
+    print_name(input->path);
+    fprintf(stderr, ") has %s%zu bytes", more ? "at least " : "", input->size);
     if (name != NULL && !more)
         fprintf(stderr, ", the size of %s", name);
     fprintf(stderr, "; it must have %zu", input->least);
