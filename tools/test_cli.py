@@ -527,6 +527,7 @@ class Usage(Case):
                       ["key", "private", "out", "--wait", "-1"], ["key", "private", "out", "--wait", ""],
                       ["key", "private", "out", "--wait", "86401"], ["key", "private", "out", "--wait", "9" * 30],
                       ["sign", "private", "line", "out", "--key"], ["sign", "private", "line", "out", "-x"],
+                      ["key", "private", "out", "--force]", "1"], ["key", "private", "out", "--wait SECONDS", "1"],
                       ["sign", "private", "line", "out", "--key", "key", "--key", "key"]):
             self.wrong(*words)
 

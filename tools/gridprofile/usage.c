@@ -100,7 +100,7 @@ int takes_option(const char *command, const char *option)
 {
     const struct page *page = find_page(command);
     const char *found = page == NULL ? NULL : strstr(page->options, option);
-    if (found == NULL || found == page->options)
+    if (found == NULL || found == page->options || strpbrk(option, "[] ") != NULL)
         return 0;
     return strchr("[ ", found[-1]) != NULL && strchr(" ]", found[strlen(option)]) != NULL;
 }
