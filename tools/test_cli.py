@@ -107,6 +107,12 @@ class Sign(Case):
                 said = self.refused(number, "sign", "private", self.put("line", bad), "out")
                 self.assertIn(words, said)
 
+    def test_file_of_many_lines(self):
+        self.package()
+        for count in (2, 18, 19, 500):
+            said = self.refused(1, "sign", "private", self.put("line", LINE * count), "out")
+            self.assertIn("bytes stand after the line feed; there must be one line and nothing else", said)
+
     def test_greatest_serial_gets_a_warning(self):
         for serial, warns in ((4294967295, True), (4294967294, False)):
             self.package(), self.put("line", line_of(serial=serial))
@@ -172,7 +178,8 @@ class Verify(Case):
 
     def test_other_key_is_4(self):
         self.package()
-        self.refused(4, "verify", self.key(bytes(32)), "package")
+        said = self.refused(4, "verify", self.key(bytes(32)), "package")
+        self.assertIn("  " + fingerprint(self.get("key")), said)
 
     def test_signed_line_that_breaks_a_rule_is_5(self):
         said = self.refused(5, "verify", self.key(), package_any(self, BAD_LINE))
@@ -201,7 +208,7 @@ class Load(Case):
     def test_what_it_says(self):
         wanted = "Accepted: country XA, class B, serial {}\n{}\n"
         for serial, before in ((12, "Nothing was stored for this country and class before."),
-                               (13, "It replaces serial 12."), (4294967295, "It replaces serial 13.")):
+                               (13, "It replaces serial 12."), (4294967294, "It replaces serial 13.")):
             said = self.done(*self.load(line_of(serial=serial), "XA", "B")).decode()
             self.assertEqual(said, wanted.format(serial, before) + fingerprint(self.get("key")))
         said = self.done(*self.load(LINE_C, "XA", "C")).decode()
@@ -214,10 +221,21 @@ class Load(Case):
         self.assertEqual(self.done("lookup", "store", "XA", "C"), LINE_C)
 
     def test_serials(self):
-        for serial, answer in ((12, 0), (12, 7), (13, 0), (12, 7), (13, 7), (4294967295, 0), (1, 7)):
+        for serial, answer in ((12, 0), (12, 7), (13, 0), (12, 7), (13, 7), (4294967294, 0), (1, 7)):
             words = self.load(line_of(serial=serial), "XA", "B")
             self.done(*words) if answer == 0 else self.refused(answer, *words)
-        self.assertEqual(self.done("lookup", "store", "XA", "B"), line_of(serial=4294967295))
+        self.assertEqual(self.done("lookup", "store", "XA", "B"), line_of(serial=4294967294))
+
+    def test_greatest_serial(self):
+        _, said = self.warned(*self.load(line_of(serial=4294967295), "XA", "B"))
+        self.assertIn("this serial is the greatest: nothing can replace the profile", said)
+        said = self.refused(7, *self.load(line_of(serial=4294967295), "XA", "B"))
+        self.assertIn("the stored serial is the greatest, which nothing can replace", said)
+
+    def test_serials_are_told(self):
+        self.done(*self.load(line_of(serial=1000), "XA", "B"))
+        said = self.refused(7, *self.load(line_of(serial=999), "XA", "B"))
+        self.assertIn("refused with 7: the serial, 999, is not greater than the stored one, 1000\n", said)
 
     def test_seventeenth_pair_is_8(self):
         pairs = [("X" + letter, of) for letter in "ABCD" for of in "ABCD"]
@@ -328,8 +346,35 @@ class Damage(Case):
             self.assertNotIn("correct the line", said)
             self.assertEqual(self.run_in("lookup", "bad", "XA", "B").stdout, LINE)
             load, _, show = self.readers("bad")
-            self.assertIn(b"the profile in slot 2 breaks a rule", self.damaged(*load).stderr)
+            self.assertIn(b"slot 2 holds what no load leaves there", self.damaged(*load).stderr)
             self.assertIn(b"slot 2: damaged, breaks a rule\n", self.damaged(*show).stdout)
+
+
+    def test_images_that_no_load_made_are_damaged(self):
+        """A load would put a checksum over them: a slot that is not used but for its first byte, a used byte of 2, a
+        pair that stands twice, a kind that is written otherwise."""
+        image = self.get(self.store(LINE, LINE_C))[:IMAGE]
+        at, other = image.index(b"\x01XAB"), image.index(b"\x01XAC")
+        wrong = (image[:at] + b"\0" + image[at + 1:], image[:at] + b"\x02" + image[at + 1:],
+                 image[:other] + image[at:at + 64] + image[other + 64:],
+                 image[:at + 52] + b"\x03" + image[at + 53:], bytes(IMAGE - 1) + b"\x01")
+        for data in wrong:
+            self.put("bad", data)
+            load, _, show = self.readers("bad")
+            for words in (load, show):
+                self.assertIn(b"holds what no load leaves there", self.damaged(*words).stderr)
+
+    def test_lookup_that_finds_nothing_says_so_of_a_damaged_image(self):
+        image = self.get(self.store(LINE))[:IMAGE]
+        self.put("bad", image.replace(b"\x01XAB", b"\x01XAZ"))
+        self.damaged("lookup", "bad", "XA", "B")
+
+    def test_store_of_a_wrong_size_may_be_damaged(self):
+        whole = self.get(self.store(LINE))
+        for data in (whole[:1040], whole[:500], b"", whole + b"x"):
+            said = self.refused(1, "lookup", self.put("bad", data), "XA", "B")
+            self.assertIn("If it was a store, it is damaged", said)
+        self.assertNotIn("damaged", self.refused(1, "lookup", "key", "XA", "B"))
 
 
 class Lookup(Case):
@@ -373,6 +418,8 @@ class Show(Case):
         shown = self.done("show", self.key()).decode()
         self.assertEqual(shown, "A public key.\n" + fingerprint(self.get("key")))
         self.assertRegex(shown, r"\nkey fingerprint:( [0-9a-f]{4}){8}\n$")
+        for key in (b"\xff" * 77, flip(self.get("key"), 76, 0x80)):
+            self.assertIn("a field is out of range", self.refused(3, "show", self.put("bad", key)))
 
     def test_store(self):
         shown = self.done("show", self.store(LINE, LINE_C)).decode()
@@ -471,7 +518,7 @@ class Usage(Case):
 
     def test_help(self):
         shown = self.done("help").decode()
-        for words in (["--help"], ["-h"], ["help", "--help"], ["help", "-h"]):
+        for words in (["--help"], ["-h"], ["help", "--help"], ["help", "-h"], ["help", "help"]):
             self.assertEqual(self.done(*words).decode(), shown)
         for name in self.COUNTS:
             self.assertRegex(shown, rf"(?m)^  {name} ")
@@ -530,6 +577,21 @@ class Usage(Case):
                       ["key", "private", "out", "--force]", "1"], ["key", "private", "out", "--wait SECONDS", "1"],
                       ["sign", "private", "line", "out", "--key", "key", "--key", "key"]):
             self.wrong(*words)
+
+    def test_values_behind_an_equals_sign(self):
+        self.package()
+        self.done("sign", "private", "line", "out", "--wait=3", "--key=key")
+        for words in (["--force=1"], ["--wait="], ["--wait=x"], ["--key=key", "--key", "key"], ["--=1"]):
+            self.wrong("sign", "private", "line", "out2", *words)
+
+    def test_value_that_looks_like_a_call_for_help(self):
+        self.package()
+        self.troubled(FILE_TROUBLE, "sign", "private", "line", "out", "--key", "-h")
+
+    def test_two_streams_are_told_with_the_arguments_of_the_command(self):
+        self.package()
+        self.assertIn("usage: gridprofile verify KEY PACKAGE", self.wrong("verify", "-", "-")[1])
+        self.assertIn("usage: gridprofile sign PRIVATE", self.wrong("sign", "-", "-", "out")[1])
 
     def test_options_stand_anywhere(self):
         self.put("private", PRIVATE), self.put("--force", b"x" * 90)

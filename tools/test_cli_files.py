@@ -1,6 +1,7 @@
 """The command-line program and what surrounds it: files, streams, permissions, secrets, runs at the same time."""
 
 import os
+import pty
 import resource
 import shutil
 import stat
@@ -73,9 +74,32 @@ class Streams(Case):
         with open("/dev/full", "wb") as full:
             for words in (["key", "private", "-"], SIGN, ["new-store", "-"], ["lookup", "store", "XA", "B"],
                           ["show", "package"], ["preview", lines], ["verify", "key", "package"],
-                          ["load", "-", "key", "package", "XA", "B"], ["new-key", "fresh", "-"], ["help"],
-                          ["--version"], ["help", "sign"]):
+                          ["load", "-", "key", "package", "XA", "B"], ["help"], ["--version"], ["help", "sign"]):
                 self.troubled(FILE_TROUBLE, *words, stdin=EMPTY, stdout=full)
+
+    def test_new_key_that_cannot_be_printed(self):
+        """The seed is there by then, and a seed is never removed."""
+        with open("/dev/full", "wb") as full:
+            ran = self.run_in("new-key", "fresh", "-", stdout=full)
+        self.assertEqual((ran.returncode, len(self.get("fresh"))), (FILE_TROUBLE, 32))
+        self.assertIn(b"fresh: the private seed is written; `gridprofile key` makes its key", ran.stderr)
+
+    def test_bytes_are_not_written_to_a_terminal(self):
+        self.package()
+        controller, terminal = pty.openpty()
+        self.addCleanup(os.close, controller)
+        with os.fdopen(terminal, "wb") as out:
+            for words in (["key", "private", "-"], SIGN, ["new-store", "-"], ["new-key", "fresh", "-"],
+                          ["load", "-", "key", "package", "XA", "B"]):
+                said = self.troubled(WRONG_USAGE, *words, stdin=EMPTY, stdout=out)
+                self.assertIn("standard output is a terminal", said)
+            self.assertEqual(self.run_in("show", "key", stdout=out).returncode, 0)
+
+    def test_stream_by_the_name_of_a_device(self):
+        self.package()
+        for name in ("/dev/stdout", "/proc/self/fd/1"):
+            said = self.troubled(FILE_TROUBLE, "sign", "private", "line", name)
+            self.assertIn("it is not a plain file; `-` is standard output", said)
 
     def test_report_that_cannot_be_written(self):
         """The file is what was asked for, and it is written."""
@@ -308,7 +332,7 @@ class Outputs(Case):
         ran = subprocess.run([program, "load", "store", "key", "package", "XA", "B"], cwd=self.folder,
                              capture_output=True, check=False, **unprivileged())
         self.assertEqual((ran.returncode, ran.stdout), (FILE_TROUBLE, b""))
-        self.assertIn(b"cannot write store: its owner cannot be kept: Operation not permitted", ran.stderr)
+        self.assertIn(b"cannot write store: its owner cannot be kept, so that only its owner can write it: Oper", ran.stderr)
         self.assertEqual(self.look(), before)
 
 

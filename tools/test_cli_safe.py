@@ -12,9 +12,9 @@ import subprocess
 import threading
 import time
 
-from cli_case import (ARCHIVE, FILE_TROUBLE, GIVEN, IMAGE, LINE, MASTER, NO_RANDOM_BYTES, PRIVATE, PROGRAM, ROOT, SALT,
+from cli_case import (ARCHIVE, FILE_TROUBLE, GIVEN, IMAGE, LINE, LINE_C, MASTER, NO_RANDOM_BYTES, PRIVATE, PROGRAM, ROOT, SALT,
                       SELF_CHECK_FAILED, SIGNATURE, STORE, WRONG_USAGE, Case, fingerprint, line_of, sealed, shake)
-from test_cli_files import HIDDEN, NOBODY, WRITES_OUTPUT, Memory
+from test_cli_files import HIDDEN, NOBODY, READS_INPUT, WRITES_OUTPUT, Memory, call_of, wait_for
 
 EMPTY = sealed(bytes(IMAGE))
 UNFINISHED = ".gridprofile-unfinished-"
@@ -111,7 +111,8 @@ class NewKey(Case):
         private, key = self.get("private"), self.get("key")
         self.assertEqual((len(private), len(key)), (32, 77))
         self.assertEqual(stat.S_IMODE(os.stat(self.path("private")).st_mode), 0o600)
-        self.assertEqual(said.decode(), fingerprint(key))
+        self.assertTrue(said.startswith(b"PRIVATE is the private seed: keep it"), said)
+        self.assertTrue(said.decode().endswith("\n" + fingerprint(key)), said)
         self.assertEqual(self.warned("key", "private", "-")[0], key)
         self.done("new-key", "private2", "key2")
         self.assertNotEqual(self.get("private2"), private)
@@ -127,15 +128,32 @@ class NewKey(Case):
         for data, options in ((b"", []), (bytes(77), []), (PRIVATE, ["--force"]), (EMPTY, ["--force"])):
             self.put("key", data)
             self.troubled(FILE_TROUBLE, "new-key", "private", "key", *options)
-        self.troubled(FILE_TROUBLE, "new-key", "private", "./../" + os.path.basename(self.folder) + "/private")
-        self.troubled(FILE_TROUBLE, "new-key", "private", "./private", "--force")
         self.put("key", bytes(77))
         self.done("new-key", "private", "key", "--force")
         self.assertEqual(self.get("key"), self.warned("key", "private", "-")[0])
 
     def test_wrong_places(self):
         self.assertIn("to a file alone", self.troubled(WRONG_USAGE, "new-key", "-", "key"))
-        self.assertIn("the same file", self.troubled(WRONG_USAGE, "new-key", "a", "a"))
+        os.symlink(".", self.path("here"))
+        for name in ("a", "./a", "here/a", os.path.join(self.folder, "a"), "../" + os.path.basename(self.folder) + "/a"):
+            for options in ([], ["--force"]):
+                self.assertIn("the same file", self.troubled(WRONG_USAGE, "new-key", "a", name, *options))
+
+    def test_no_seed_is_seen_before_its_key(self):
+        """While the key's folder is locked by somebody else there is no seed, and after an interruption there is none."""
+        os.mkdir(self.path("other"))
+        folder = os.open(self.path("other"), os.O_RDONLY)
+        self.addCleanup(os.close, folder)
+        fcntl.flock(folder, fcntl.LOCK_EX)
+        self.troubled(FILE_TROUBLE, "new-key", "private", "other/key", "--wait", "0")
+        for number in (signal.SIGTERM, signal.SIGINT, signal.SIGHUP):
+            process = subprocess.Popen([PROGRAM, "new-key", "private", "other/key"], cwd=self.folder,
+                                       stderr=subprocess.PIPE)
+            self.assertIn(b"waiting", process.stderr.readline())
+            self.assertEqual((self.names(), os.listdir(self.path("other"))), (["other"], []))
+            process.send_signal(number)
+            process.communicate(timeout=60)
+            self.assertEqual((self.names(), os.listdir(self.path("other"))), (["other"], []))
 
 
 class Drawn(Planted):
@@ -203,9 +221,10 @@ class Faults(Planted):
             ran = self.run_in(*words, planted={"KILL": 1})
             self.assertEqual(ran.returncode, -signal.SIGKILL)
             left = set(self.names()) - set(before)
-            self.assertEqual([name.startswith(UNFINISHED) for name in left], [True])
-            self.assertEqual(stat.S_IMODE(os.stat(self.path(left.pop())).st_mode) & 0o077,
-                             0 if words[0] == "new-key" else 0o044)
+            both = words[0] == "new-key"
+            self.assertEqual([name.startswith(UNFINISHED) for name in left], [True, True] if both else [True])
+            modes = sorted(stat.S_IMODE(os.stat(self.path(name)).st_mode) for name in left)
+            self.assertEqual(modes, [0o600, 0o644] if both else [0o644])
             self.done(*words)
             self.assertEqual([name for name in self.names() if name.startswith(UNFINISHED)], [])
             os.remove(self.path("out"))
@@ -235,10 +254,22 @@ class Exchanged(Case):
 
     def test_private_seed_in_the_place_of_the_salt(self):
         self.package()
+        self.assertIn("SALT is a file for its owner alone",
+                      self.troubled(WRONG_USAGE, *self.sign("salt", "master", "private")))
+        os.chmod(self.path("private"), 0o644)
         self.assertIn("KEY is not the public key of PRIVATE",
                       self.troubled(WRONG_USAGE, *self.sign("salt", "master", "private")))
+        os.chmod(self.path("private"), 0o600)
         self.put("copy", PRIVATE)
         self.assertIn("PRIVATE and SALT share bytes", self.troubled(WRONG_USAGE, *self.sign(salt="copy")))
+
+    def test_seed_of_another_key_in_the_place_of_the_salt(self):
+        self.package()
+        self.done("new-key", "other", "other.key")
+        for mode, taken in ((0o600, False), (0o400, False), (0o640, True), (0o644, True)):
+            os.chmod(self.path("other"), mode)
+            words = self.sign(salt="other")
+            self.done(*words, "--force") if taken else self.troubled(WRONG_USAGE, *words, "--force")
 
     def test_seeds_that_share_bytes(self):
         self.package()
@@ -257,7 +288,7 @@ class Exchanged(Case):
         whole = self.sign()
         for at in (4, 6, 8):
             said = self.troubled(WRONG_USAGE, *whole[:at], *whole[at + 2:])
-            self.assertIn("given seeds are a master seed, a salt and the key", said)
+            self.assertIn("given seeds come with one another and the key, missing: " + whole[at], said)
 
     def test_key_that_is_named_must_be_the_own(self):
         self.package(), self.put("own", self.get("key"))
@@ -336,14 +367,14 @@ class Existing(Case):
             pipe.write(LINE)
         said = process.communicate(timeout=60)[1]
         self.assertEqual((process.returncode, self.get("out")), (FILE_TROUBLE, b"another run's"))
-        self.assertIn(b"cannot write out: File exists", said)
+        self.assertIn(b"cannot write out: it exists; --force replaces it", said)
         self.assertEqual([name for name in self.names() if name.startswith(UNFINISHED)], [])
 
 
 class Readable(Case):
     def test_seed_that_others_can_read_gets_a_warning(self):
         self.package()
-        for mode, warns in ((0o644, True), (0o640, True), (0o604, True), (0o600, False), (0o400, False)):
+        for mode, warns in ((0o644, True), (0o640, True), (0o604, True), (0o620, True), (0o602, True), (0o600, False), (0o400, False)):
             for name, words in (("private", ["key", "private", "out"]), ("private", ["sign", "private", "line", "out"]),
                                 ("master", ["sign", "private", "line", "out", *GIVEN])):
                 for file in ("private", "master"):
@@ -352,7 +383,7 @@ class Readable(Case):
                 ran = self.run_in(*words)
                 self.assertEqual(ran.returncode, 0)
                 os.remove(self.path("out"))
-                told = f"warning: {name}: this seed is secret, but others can read it".encode() in ran.stderr
+                told = f"warning: {name}: this seed is secret, but others can read or change".encode() in ran.stderr
                 self.assertEqual((told, ran.stderr != b""), (warns, warns), (mode, words))
 
 
@@ -410,7 +441,8 @@ class Locks(Case):
         self.assertGreaterEqual(time.monotonic() - start, 1.9)
         self.assertEqual([line.split(": ", 1)[1] for line in said.splitlines()],
                          ["warning: store: another program holds the lock on its folder; waiting",
-                          "cannot write store: another program holds the lock on its folder; try again later"])
+                          "cannot write store: another program holds the lock on its folder; try again later, or "
+                          "wait longer by --wait"])
 
     def test_lock_that_is_given_up(self):
         writers = self.writers()
@@ -420,6 +452,55 @@ class Locks(Case):
         self.assertEqual(self.done("lookup", "store", "XA", "B"), LINE)
         self.lock(0.2)
         self.done(*writers[1])
+
+    def waits(self, *words):
+        """The program, which waits for the lock on the folder and has said so; then what is done meanwhile."""
+        self.package(), self.store()
+        folder = os.open(self.folder, os.O_RDONLY)
+        fcntl.flock(folder, fcntl.LOCK_EX)
+        process = subprocess.Popen([PROGRAM, *words], cwd=self.folder, stdout=subprocess.PIPE, stderr=subprocess.PIPE)
+        self.assertIn(b"waiting", process.stderr.readline())
+        yield
+        os.close(folder)
+        said = process.communicate(timeout=60)[1]
+        yield process.returncode, said
+
+    def test_store_that_leads_elsewhere_meanwhile(self):
+        self.store(LINE_C, name="a"), self.store(name="b")
+        os.symlink("a", self.path("current"))
+        run = self.waits("load", "current", "key", "package", "XA", "B")
+        next(run)
+        before = self.get("a"), self.get("b")
+        os.remove(self.path("current")), os.symlink("b", self.path("current"))
+        status, said = next(run)
+        self.assertEqual((status, self.get("a"), self.get("b")), (FILE_TROUBLE, *before))
+        self.assertIn(b"current: it leads to another file now; try again", said)
+
+    def test_seed_that_comes_meanwhile_is_not_replaced(self):
+        self.put("out", b"to be replaced")
+        run = self.waits("sign", "private", "line", "out", "--force")
+        next(run)
+        self.put("new", HIDDEN[0]), os.rename(self.path("new"), self.path("out"))
+        status, said = next(run)
+        self.assertEqual((status, self.get("out")), (FILE_TROUBLE, HIDDEN[0]))
+        self.assertIn(b"out: it exists and has the size of a private seed", said)
+
+    def test_permissions_that_change_meanwhile_count(self):
+        run = self.waits("load", "store", "key", "package", "XA", "B")
+        next(run)
+        os.chmod(self.path("store"), 0o600)
+        self.assertEqual(next(run)[0], 0)
+        self.assertEqual(stat.S_IMODE(os.stat(self.path("store")).st_mode), 0o600)
+
+    def test_load_waits_for_its_package_without_the_lock(self):
+        self.package(), self.store()
+        process = subprocess.Popen([PROGRAM, "load", "store", "key", "-", "XA", "B"], cwd=self.folder,
+                                   stdin=subprocess.PIPE, stdout=subprocess.PIPE)
+        wait_for(lambda: call_of(process) == READS_INPUT)
+        self.done("new-store", "other", "--wait", "0")
+        process.communicate(self.get("package"), timeout=60)
+        self.assertEqual(process.returncode, 0)
+        self.assertEqual(self.done("lookup", "store", "XA", "B"), LINE)
 
     def test_readers_do_not_wait(self):
         self.store(LINE)
@@ -453,7 +534,7 @@ class Locks(Case):
 class SmallStack(Case):
     def test_every_command(self):
         self.package(), self.store()
-        for kilobytes in (200, 100):
+        for kilobytes in (200, 64):
             size = kilobytes * 1024
             small = {"preexec_fn": lambda limit=size: resource.setrlimit(resource.RLIMIT_STACK, (limit, limit))}
             name = f"at{kilobytes}-"

@@ -60,39 +60,45 @@ static void look_at(struct input *input, int file)
         return;
     if (found.st_size > 0 && (size_t)found.st_size > input->size)
         input->size = (size_t)found.st_size;
-    if (input->secret && is_size_taken(input) && (found.st_mode & (S_IRGRP | S_IROTH)) != 0)
-        warn(input->path, "this seed is secret, but others can read it: chmod 600");
+    input->closed = (found.st_mode & (S_IRGRP | S_IROTH)) == 0;
+    if (input->secret && is_size_taken(input) && (found.st_mode & 066) != 0)
+        warn(input_name(input), "this seed is secret, but others can read or change it: chmod 600");
+}
+
+const char *input_name(const struct input *input)
+{
+    return is_stream(input->path) ? "standard input" : input->path;
 }
 
 static int read_input(struct input *input)
 {
     int stream = is_stream(input->path), failed, reason;
-    const char *name = stream ? "standard input" : input->path;
-    int file = stream ? STDIN_FILENO : open(input->path, O_RDONLY | O_CLOEXEC);
+    const char *path = input->target != NULL ? input->target : input->path;
+    int file = stream ? STDIN_FILENO : open(path, O_RDONLY | O_CLOEXEC);
     if (file < 0)
-        return file_trouble("read", name, strerror(errno));
+        return file_trouble("read", input_name(input), strerror(errno));
     failed = read_all(file, input->bytes, input->room, &input->length);
     reason = errno;
     if (!failed)
         look_at(input, file);
     if (!stream)
         (void)close(file);
-    return failed ? file_trouble("read", name, strerror(reason)) : 0;
+    return failed ? file_trouble("read", input_name(input), strerror(reason)) : 0;
 }
 
-static size_t count_streams(const struct input *inputs, size_t count)
+int check_streams(const struct request *request, const struct input *inputs, size_t count)
 {
     size_t streams = 0;
     for (size_t at = 0; at < count; at++)
         streams += is_stream(inputs[at].path) ? 1 : 0;
-    return streams;
+    if (streams > 1)
+        return wrong_usage(request->command, "only one input can be standard input", "");
+    return 0;
 }
 
 int read_inputs(struct input *inputs, size_t count)
 {
     int status = 0;
-    if (count_streams(inputs, count) > 1)
-        return wrong_usage("", "only one input can be standard input", "");
     for (size_t at = 0; at < count && status == 0; at++)
         status = read_input(&inputs[at]);
     return status;

@@ -3,7 +3,6 @@
 #include "program.h"
 
 #include <string.h>
-#include <unistd.h>
 
 static uint8_t private_seed[GRIDPROFILE_PRIVATE_SEED_BYTES + 1], key[GRIDPROFILE_KEY_BYTES];
 static size_t private_length;
@@ -14,19 +13,11 @@ static void make_key(void)
     answer = gridprofile_make_key(private_seed, private_length, key, sizeof key);
 }
 
-static int report_key(struct output *output)
-{
-    int status = write_output(output, key, sizeof key);
-    if (status == 0)
-        print_fingerprint(report_of(output), key);
-    return status;
-}
-
 int run_key(const struct request *request)
 {
     struct input inputs[] = {exact_input("PRIVATE", request->arguments[0], private_seed,
                                          GRIDPROFILE_PRIVATE_SEED_BYTES)};
-    struct output output;
+    static struct output output;
     int status;
     inputs[0].secret = 1;
     status = prepare(&output, request, request->arguments[1], KEY, inputs, COUNT(inputs));
@@ -38,7 +29,10 @@ int run_key(const struct request *request)
         return status;
     if (answer != 0)
         return refused(request->command, answer, inputs, COUNT(inputs), NULL, 0);
-    return report_key(&output);
+    status = write_output(&output, key, sizeof key);
+    if (status == 0)
+        print_fingerprint(report_of(&output), key);
+    return status;
 }
 
 static int draw_key(void)
@@ -54,34 +48,55 @@ static int draw_key(void)
     return status;
 }
 
+static struct output private, public;
+
 /* Both places, before anything is drawn. */
-static int find_places(const struct request *request, struct output *private, struct output *public)
+static int find_places(const struct request *request)
 {
     int status;
     if (is_stream(request->arguments[0]))
         return wrong_usage(request->command, "a private seed is written to a file alone", "");
-    if (strcmp(request->arguments[0], request->arguments[1]) == 0)
+    status = find_output(&private, request, request->arguments[0], SEED);
+    if (status == 0)
+        status = find_output(&public, request, request->arguments[1], KEY);
+    if (status == 0 && !is_stream(public.path) && strcmp(private.target, public.target) == 0)
         return wrong_usage(request->command, "PRIVATE and KEY are the same file", "");
-    status = find_output(private, request, request->arguments[0], SEED);
-    return status != 0 ? status : find_output(public, request, request->arguments[1], KEY);
+    return status;
 }
 
-/* Both files or none: a seed whose key was not written has no use. */
+/* A stream can take long, and a seed that is there is never removed: it may be in use by then. */
+static int write_seed_then_stream(void)
+{
+    int status = write_output(&private, private_seed, GRIDPROFILE_PRIVATE_SEED_BYTES);
+    wipe(private_seed, sizeof private_seed);
+    if (status != 0)
+        return status;
+    status = write_output(&public, key, sizeof key);
+    if (status != 0)
+        warn(private.path, "the private seed is written; `gridprofile key` makes its key");
+    return status;
+}
+
+static void report_pair(FILE *to)
+{
+    fputs("PRIVATE is the private seed: keep it, and let nobody read it. KEY is for everybody.\n", to);
+    print_fingerprint(to, key);
+}
+
 int run_new_key(const struct request *request)
 {
-    struct output private, public;
-    int status = find_places(request, &private, &public);
+    int status = find_places(request);
     if (status == 0)
         status = draw_key();
     if (status == 0 && answer != 0)
         status = refused(request->command, answer, NULL, 0, NULL, 0);
     if (status == 0)
-        status = write_output(&private, private_seed, GRIDPROFILE_PRIVATE_SEED_BYTES);
+        status = is_stream(public.path)
+                     ? write_seed_then_stream()
+                     : write_both(&private, private_seed, GRIDPROFILE_PRIVATE_SEED_BYTES, &public,
+                                  key, sizeof key);
     wipe(private_seed, sizeof private_seed);
-    if (status != 0)
-        return status;
-    status = report_key(&public);
-    if (status != 0)
-        (void)unlink(private.target);
+    if (status == 0)
+        report_pair(report_of(&public));
     return status;
 }

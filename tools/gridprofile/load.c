@@ -10,7 +10,7 @@ static uint8_t store[STORE_FILE_BYTES + 1];
 
 int run_new_store(const struct request *request)
 {
-    struct output output;
+    static struct output output;
     int status = find_output(&output, request, request->arguments[0], STORE);
     if (status != 0)
         return status;
@@ -42,6 +42,8 @@ static void print_accepted(FILE *to, const uint8_t *before, const uint8_t *key)
     size_t slot = changed_slot(before);
     fputs("Accepted: ", to);
     print_device(to, store + slot);
+    if (serial_of(store + slot) == UINT32_MAX)
+        warn("the package", unreplaceable);
     if (before[slot] != 0)
         fprintf(to, "It replaces serial %" PRIu32 ".\n", serial_of(before + slot));
     else
@@ -49,51 +51,93 @@ static void print_accepted(FILE *to, const uint8_t *before, const uint8_t *key)
     print_fingerprint(to, key);
 }
 
-/* A load puts a fresh checksum over the whole, so that what is damaged must be seen before. */
-static int open_for_load(struct input *read)
+/* The serial of a line, or 0, which none has. */
+static uint32_t serial_of_line(const uint8_t *line, size_t length)
 {
-    char how[80];
-    size_t slot = 0;
-    int status = open_store(read);
+    uint8_t profile[GRIDPROFILE_PROFILE_IMAGE_BYTES];
+    return gridprofile_read_line(line, length, profile, sizeof profile) == 0 ? serial_of(profile) : 0;
+}
+
+static uint32_t stored_serial(const struct request *request)
+{
+    const uint8_t *country = (const uint8_t *)request->arguments[3];
+    uint8_t line[GRIDPROFILE_LINE_MAX_BYTES];
+    size_t length = 0;
+    (void)gridprofile_lookup(store, GRIDPROFILE_STORE_IMAGE_BYTES, country, 2,
+                             class_number(request->arguments[4]), line, sizeof line, &length);
+    return serial_of_line(line, length);
+}
+
+static int refuse_serial(const struct request *request, const struct input *package)
+{
+    uint32_t stored = stored_serial(request);
+    uint32_t serial = serial_of_line(package->bytes + GRIDPROFILE_SIGNATURE_BYTES,
+                                     package->length - GRIDPROFILE_SIGNATURE_BYTES);
+    char meaning[96];
+    (void)snprintf(meaning, sizeof meaning,
+                   "the serial, %" PRIu32 ", is not greater than the stored one, %" PRIu32, serial,
+                   stored);
+    return refused_because(request->command, GRIDPROFILE_OLD_SERIAL, meaning,
+                           stored == UINT32_MAX
+                               ? "the stored serial is the greatest, which nothing can replace"
+                               : "a newer profile is signed under a greater serial");
+}
+
+/* The store is read under the lock, and nothing else is: what comes by a stream can take long. A load
+ * puts a fresh checksum over the whole, so that what is damaged must be seen before. */
+static int read_store(struct output *output, struct input *read)
+{
+    int status = lock_output(output);
+    if (!is_stream(output->path))
+        read->target = output->target;
+    if (status == 0)
+        status = read_inputs(read, 1);
+    if (status == 0)
+        status = open_store(read);
     if (status == 0 && read->length == GRIDPROFILE_STORE_IMAGE_BYTES)
-        slot = broken_slot(read->bytes);
-    if (slot == 0)
-        return status;
-    (void)snprintf(how, sizeof how, "the profile in slot %zu breaks a rule", slot);
-    return damaged_store(read->path, how);
+        status = check_slots(read);
+    return status;
+}
+
+static int write_store(struct output *output, const uint8_t *before, const uint8_t *key)
+{
+    int status;
+    seal_store(store);
+    status = write_output(output, store, STORE_FILE_BYTES);
+    if (status == 0)
+        print_accepted(report_of(output), before, key);
+    return status;
 }
 
 int run_load(const struct request *request)
 {
     static uint8_t key[GRIDPROFILE_KEY_BYTES + 1], package[GRIDPROFILE_PACKAGE_MAX_BYTES + 1];
     static uint8_t before[GRIDPROFILE_STORE_IMAGE_BYTES];
+    static struct output output;
     struct input inputs[] = {
         store_input(request->arguments[0], store),
         exact_input("KEY", request->arguments[1], key, GRIDPROFILE_KEY_BYTES),
         package_input(request->arguments[2], package),
     };
     const char *country = request->arguments[3];
-    struct output output;
-    int status = find_store(&output, request, request->arguments[0]), answer;
+    int status = check_streams(request, inputs, COUNT(inputs)), answer;
     if (status == 0)
-        status = lock_output(&output);
+        status = find_store(&output, request, request->arguments[0]);
     if (status == 0)
-        status = read_inputs(inputs, COUNT(inputs));
+        status = read_inputs(inputs + 1, COUNT(inputs) - 1);
     if (status == 0)
-        status = open_for_load(&inputs[0]);
+        status = read_store(&output, inputs);
     if (status != 0)
         return status;
     memcpy(before, store, sizeof before);
     answer = gridprofile_load(store, inputs[0].length, key, inputs[1].length, package,
                               inputs[2].length, (const uint8_t *)country, strlen(country),
                               class_number(request->arguments[4]));
+    if (answer == GRIDPROFILE_OLD_SERIAL)
+        return refuse_serial(request, &inputs[2]);
     if (answer != 0)
         return refused_package(request->command, answer, inputs, COUNT(inputs), &inputs[2]);
-    seal_store(store);
-    status = write_output(&output, store, STORE_FILE_BYTES);
-    if (status == 0)
-        print_accepted(report_of(&output), before, key);
-    return status;
+    return write_store(&output, before, key);
 }
 
 int run_lookup(const struct request *request)
@@ -109,6 +153,8 @@ int run_lookup(const struct request *request)
         return status;
     answer = gridprofile_lookup(store, inputs[0].length, (const uint8_t *)country, strlen(country),
                                 class_number(request->arguments[2]), line, sizeof line, &length);
+    if (answer == GRIDPROFILE_NOT_STORED && check_slots(&inputs[0]) != 0)
+        return DAMAGED_STORE;
     if (answer == GRIDPROFILE_BAD_PROFILE)
         return refused_because(request->command, answer,
                                "the stored profile breaks a rule: the store is damaged",

@@ -24,13 +24,13 @@ static void pause_a_turn(void)
 }
 
 /* A folder that cannot be locked, on a file system without locks for instance, is no reason not to
- * write there, where nothing is lost by it. */
+ * write there. Only where a file is changed, two runs at the same time could lose what one wrote. */
 static int cannot_lock(struct output *output)
 {
     int reason = errno;
     unlock_output(output);
-    return output->must_lock ? file_trouble("lock the folder of", output->path, strerror(reason))
-                             : 0;
+    return output->is_changed ? file_trouble("lock the folder of", output->path, strerror(reason))
+                              : 0;
 }
 
 /* Tries until the time is over, and says so once where it takes more than a second. */
@@ -43,7 +43,8 @@ static int wait_for_lock(struct output *output)
         if (turn >= turns) {
             unlock_output(output);
             return file_trouble("write", output->path,
-                                "another program holds the lock on its folder; try again later");
+                                "another program holds the lock on its folder; try again later, or "
+                                "wait longer by --wait");
         }
         if (turn == TURNS_A_SECOND)
             warn(output->path, "another program holds the lock on its folder; waiting");
@@ -75,17 +76,51 @@ static void remove_leftovers(const char *path, int folder)
     (void)closedir(names);
 }
 
+/* What is found under the lock is what counts. */
+static int settle_lock(struct output *output)
+{
+    int status = find_again(output);
+    if (status != 0)
+        unlock_output(output);
+    else if (output->lock >= 0)
+        remove_leftovers(output->folder, output->lock);
+    return status;
+}
+
 int lock_output(struct output *output)
 {
     int status;
     if (is_stream(output->path) || output->lock >= 0)
         return 0;
     output->lock = open(output->folder, O_RDONLY | O_DIRECTORY | O_CLOEXEC);
-    if (output->lock < 0)
-        return cannot_lock(output);
-    status = wait_for_lock(output);
-    if (output->lock >= 0)
-        remove_leftovers(output->folder, output->lock);
+    status = output->lock < 0 ? cannot_lock(output) : wait_for_lock(output);
+    return status != 0 ? status : settle_lock(output);
+}
+
+/* Whether a file lies in the folder that is locked for another: a second lock would wait for the
+ * first. */
+static int is_locked_by(const struct output *output, const struct output *other)
+{
+    struct stat own, locked;
+    return other->lock >= 0 && stat(output->folder, &own) == 0 && fstat(other->lock, &locked) == 0 &&
+           own.st_dev == locked.st_dev && own.st_ino == locked.st_ino;
+}
+
+int lock_both(struct output *one, struct output *other)
+{
+    int status = lock_output(one);
+    if (status != 0)
+        return status;
+    if (is_locked_by(other, one)) {
+        other->lock = fcntl(one->lock, F_DUPFD_CLOEXEC, 0);
+        status = find_again(other);
+    } else {
+        status = lock_output(other);
+    }
+    if (status != 0) {
+        unlock_output(one);
+        unlock_output(other);
+    }
     return status;
 }
 

@@ -45,20 +45,6 @@ static void occupy_streams(void)
             (void)open("/dev/null", stream == STDIN_FILENO ? O_WRONLY : O_RDONLY);
 }
 
-static int is_help(const char *word)
-{
-    return strcmp(word, "--help") == 0 || strcmp(word, "-h") == 0;
-}
-
-/* Up to a word `--`, after which every word is an argument. */
-static int asks_help(char **words)
-{
-    for (; *words != NULL && strcmp(*words, "--") != 0; words++)
-        if (is_help(*words))
-            return 1;
-    return 0;
-}
-
 /* Help and version, of the whole program: answers whether the words ask for it. */
 static int tell(char **words, int *status)
 {

@@ -4,6 +4,9 @@
 #include <stdlib.h>
 #include <string.h>
 
+/* Longer than any option. */
+enum { OPTION_BYTES = 32 };
+
 /* A loading run takes a fraction of a second. */
 enum { WAIT_SECONDS = 30, MOST_WAIT_SECONDS = 86400 };
 
@@ -28,25 +31,58 @@ static int read_wait(struct request *request, const char *text)
     return 0;
 }
 
-/* Takes an option, and the word after it where that is its value; answers 0 or the exit status. */
-static int read_option(struct request *request, char ***words)
+static int read_value(struct request *request, const char *option, const char *value)
 {
-    const char *option = **words, *value = (*words)[1];
     const char **place = value_of(request, option);
-    if (!takes_option(request->command, option))
-        return wrong_usage(request->command, "there is no option ", option);
-    if (strcmp(option, "--force") == 0) {
-        request->force = 1;
-        return 0;
-    }
-    if (value == NULL)
-        return wrong_usage(request->command, "a value is missing after ", option);
-    (*words)++;
     if (place == NULL)
         return read_wait(request, value);
     if (*place != NULL)
         return wrong_usage(request->command, "given twice: ", option);
     *place = value;
+    return 0;
+}
+
+/* Takes an option, and its value behind `=` or in the next word; answers 0 or the exit status. */
+static int read_option(struct request *request, char ***words)
+{
+    char option[OPTION_BYTES] = "";
+    const char *word = **words, *value = strchr(word, '=');
+    size_t length = strcspn(word, "=");
+    if (length < sizeof option)
+        memcpy(option, word, length);
+    if (!takes_option(request->command, option))
+        return wrong_usage(request->command, "there is no option ", word);
+    if (strcmp(option, "--force") == 0) {
+        request->force = 1;
+        return value == NULL ? 0 : wrong_usage(request->command, "this option has no value: ", word);
+    }
+    if (value != NULL)
+        return read_value(request, option, value + 1);
+    if ((*words)[1] == NULL)
+        return wrong_usage(request->command, "a value is missing after ", option);
+    return read_value(request, option, *++*words);
+}
+
+int is_help(const char *word)
+{
+    return strcmp(word, "--help") == 0 || strcmp(word, "-h") == 0;
+}
+
+static int has_value(const char *word)
+{
+    static struct request any;
+    return value_of(&any, word) != NULL || strcmp(word, "--wait") == 0;
+}
+
+/* Up to a word `--`, after which every word is an argument; the value of an option is none either. */
+int asks_help(char **words)
+{
+    for (; *words != NULL && strcmp(*words, "--") != 0; words++) {
+        if (is_help(*words))
+            return 1;
+        if (has_value(*words) && words[1] != NULL)
+            words++;
+    }
     return 0;
 }
 

@@ -42,81 +42,123 @@ static int find_old(struct output *output, const struct stat *found)
     return 0;
 }
 
-static int find_new(struct output *output, enum kind kind)
+/* A name that there is not yet, in a folder that there must be. */
+static int find_new(struct output *output)
+{
+    char folder[PATH_MAX];
+    const char *slash = strrchr(output->path, '/'), *name = slash == NULL ? output->path : slash + 1;
+    size_t length = slash == NULL ? 0 : (size_t)(slash - output->path);
+    if (*name == '\0' || strlen(output->path) >= sizeof folder)
+        return file_trouble("write", output->path, strerror(*name ? ENAMETOOLONG : ENOENT));
+    memcpy(folder, output->path, length);
+    folder[length] = '\0';
+    if (length == 0)
+        strcpy(folder, slash == NULL ? "." : "/");
+    if (realpath(folder, output->target) == NULL)
+        return file_trouble("write", output->path, strerror(errno));
+    length = strlen(output->target);
+    if (length + 1 + strlen(name) >= sizeof output->target)
+        return file_trouble("write", output->path, strerror(ENAMETOOLONG));
+    (void)sprintf(output->target + length, "%s%s", length == 1 ? "" : "/", name);
+    output->mode = new_mode(output->kind);
+    return 0;
+}
+
+/* Why a name that leads to no file is not free all the same. */
+static int find_missing(struct output *output)
 {
     struct stat found;
     if (errno != ENOENT)
         return file_trouble("write", output->path, strerror(errno));
+    if (output->is_changed)
+        return file_trouble("load into", output->path,
+                            "there is no such store; `gridprofile new-store` makes an empty one");
+    if (stat(output->path, &found) == 0)
+        return file_trouble("write", output->path,
+                            "it is not a plain file; `-` is standard output");
     if (lstat(output->path, &found) == 0)
         return file_trouble("write", output->path, "it is a link to nothing");
-    if (strlen(output->path) >= sizeof output->target)
-        return file_trouble("write", output->path, strerror(ENAMETOOLONG));
-    strcpy(output->target, output->path);
-    output->mode = new_mode(kind);
-    return 0;
+    return find_new(output);
 }
 
 /* A seed is never replaced. Nor is a key or a store by something else: that is a slip in the order
  * of the arguments, and --force was not meant for it. */
-static int spare_old(const struct output *output, const struct request *request, enum kind kind,
-                     size_t size)
+static int spare_old(const struct output *output, size_t size)
 {
     enum kind old = kind_of(size);
     char why[160];
-    if (old == SEED || ((old == KEY || old == STORE) && old != kind)) {
+    if (output->kind == SEED)
+        return file_trouble("write", output->path,
+                            "it exists, and a private seed is written over no file; choose another "
+                            "name");
+    if (old == SEED || ((old == KEY || old == STORE) && old != output->kind)) {
         (void)snprintf(why, sizeof why,
-                       "it exists and has the size of %s, which is not replaced by something else",
-                       kind_name(size));
+                       "it exists and has the size of %s, which nothing else replaces; choose "
+                       "another name, or remove it first", kind_name(size));
         return file_trouble("write", output->path, why);
     }
-    if (kind == SEED)
-        return file_trouble("write", output->path, "it exists, and a seed replaces no file");
-    if (!request->force)
+    if (!output->force)
         return file_trouble("write", output->path, "it exists; --force replaces it");
     return 0;
 }
 
-static int find(struct output *output, const struct request *request, const char *path,
-                enum kind kind, int spare)
+static int find(struct output *output)
 {
     struct stat found;
     int status;
-    output->path = path;
     output->exists = 0;
-    output->must_lock = 0;
-    output->lock = -1;
-    output->wait = request->wait;
-    if (is_stream(path))
-        return 0;
-    if (realpath(path, output->target) == NULL) {
-        status = find_new(output, kind);
-    } else {
-        status = stat(output->target, &found) != 0
-                     ? file_trouble("write", path, strerror(errno))
-                     : find_old(output, &found);
-        if (status == 0 && spare)
-            status = spare_old(output, request, kind, (size_t)found.st_size);
-    }
+    if (realpath(output->path, output->target) == NULL)
+        status = find_missing(output);
+    else if (stat(output->target, &found) != 0)
+        status = file_trouble("write", output->path, strerror(errno));
+    else
+        status = find_old(output, &found);
+    if (status == 0 && output->exists && !output->is_changed)
+        status = spare_old(output, (size_t)found.st_size);
     if (status == 0)
         name_folder(output);
     return status;
 }
 
+static int find_first(struct output *output, const struct request *request, const char *path)
+{
+    output->path = path;
+    output->force = request->force;
+    output->wait = request->wait;
+    output->lock = -1;
+    if (!is_stream(path))
+        return find(output);
+    if (isatty(STDOUT_FILENO))
+        return wrong_usage(request->command, "standard output is a terminal, which shows no bytes",
+                           "");
+    return 0;
+}
+
 int find_output(struct output *output, const struct request *request, const char *path,
                 enum kind kind)
 {
-    return find(output, request, path, kind, 1);
+    output->kind = kind;
+    output->is_changed = 0;
+    return find_first(output, request, path);
 }
 
-/* A store that is loaded into is there, and is replaced by what it becomes: without a lock, two
- * loads at the same time could lose a profile. */
 int find_store(struct output *output, const struct request *request, const char *path)
 {
-    int status = find(output, request, path, STORE, 0);
-    output->must_lock = 1;
-    if (status == 0 && !is_stream(path) && !output->exists)
-        return file_trouble("load into", path,
-                            "there is no such store; `gridprofile new-store` makes an empty one");
+    output->kind = STORE;
+    output->is_changed = 1;
+    return find_first(output, request, path);
+}
+
+/* What was found may have changed until the lock was there. A name that leads elsewhere then is not
+ * followed: the lock is on the other folder. */
+int find_again(struct output *output)
+{
+    static char before[PATH_MAX];
+    int status;
+    strcpy(before, output->target);
+    status = find(output);
+    if (status == 0 && strcmp(before, output->target) != 0)
+        return file_trouble("write", output->path, "it leads to another file now; try again");
     return status;
 }
 
@@ -137,7 +179,9 @@ static int spare_inputs(const struct request *request, const char *path, const s
 int prepare(struct output *output, const struct request *request, const char *path, enum kind kind,
             struct input *inputs, size_t count)
 {
-    int status = spare_inputs(request, path, inputs, count);
+    int status = check_streams(request, inputs, count);
+    if (status == 0)
+        status = spare_inputs(request, path, inputs, count);
     if (status == 0)
         status = find_output(output, request, path, kind);
     return status != 0 ? status : read_inputs(inputs, count);

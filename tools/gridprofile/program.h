@@ -20,6 +20,11 @@
 
 #define COUNT(array) (sizeof(array) / sizeof *(array))
 
+/* kinds.c: what a file of this many bytes looks like, and its name for people ("a public key"). */
+enum kind { NO_KIND, SEED, KEY, STORE, PACKAGE, LINE };
+enum kind kind_of(size_t size);
+const char *kind_name(size_t size);
+
 /* What is asked for. */
 struct request {
     const char *command;
@@ -32,8 +37,9 @@ struct request {
 /* A file that a command reads. More than it may have is read, so that a longer file is told from a
  * whole one and the library refuses it. */
 struct input {
-    const char *role; /* as the usage text names it */
-    const char *path; /* "-" is standard input */
+    const char *role;   /* as the usage text names it */
+    const char *path;   /* "-" is standard input */
+    const char *target; /* what is opened in its place, or NULL */
     uint8_t *bytes;
     size_t room;        /* how much is read at most, more than `most` and `also` */
     size_t least, most; /* the lengths that are taken */
@@ -41,54 +47,62 @@ struct input {
     int secret;         /* a seed, which others must not read */
     size_t length;      /* what was read */
     size_t size;        /* what the file has, where that can be told, else what was read */
+    int closed;         /* nobody but its owner can read it, as with a seed */
 };
 
 /* A file that a command writes. */
 struct output {
     const char *path;      /* "-" is standard output */
+    enum kind kind;
+    int force;             /* --force is given */
+    int is_changed;        /* it is there, and is replaced by what it becomes */
     char target[PATH_MAX]; /* what is written, with links followed */
     char folder[PATH_MAX]; /* where that stands */
+    char begun[PATH_MAX];  /* the temporary file */
     int exists;            /* and is replaced */
     mode_t mode;           /* the permissions that it gets */
     uid_t owner;           /* those of what is replaced */
     gid_t group;
     unsigned wait;         /* seconds, for the lock on the folder */
-    int must_lock;         /* also where the folder cannot be locked at all, it is a failure */
     int lock;              /* the locked folder, or -1 */
 };
 
-/* kinds.c: what a file of this many bytes looks like, and its name for people ("a public key"). */
-enum kind { NO_KIND, SEED, KEY, STORE, PACKAGE, LINE };
-enum kind kind_of(size_t size);
-const char *kind_name(size_t size);
-
 /* options.c: sorts words into a request; answers 0, or the exit status after saying what is wrong. */
 int read_request(struct request *request, char **words);
-int takes_option(const char *command, const char *option);
+int is_help(const char *word);
+int asks_help(char **words);
 
 /* input.c: each answers 0, or the exit status after saying on standard error what is wrong. */
 int is_stream(const char *path);
 struct input exact_input(const char *role, const char *path, uint8_t *bytes, size_t size);
 struct input package_input(const char *path, uint8_t *bytes);
+int check_streams(const struct request *request, const struct input *inputs, size_t count);
 int read_inputs(struct input *inputs, size_t count);
 int is_size_taken(const struct input *input);
+const char *input_name(const struct input *input);
 
 /* output.c: as above. `prepare` finds the output and then reads the inputs, none of which it may be;
- * `find_output` and `find_store` are for outputs that come with no such inputs. */
+ * `find_output` and `find_store` are for outputs that come with no such inputs, and `find_again` looks
+ * once more when the lock is there. */
 int prepare(struct output *output, const struct request *request, const char *path, enum kind kind,
             struct input *inputs, size_t count);
 int find_output(struct output *output, const struct request *request, const char *path,
                 enum kind kind);
 int find_store(struct output *output, const struct request *request, const char *path);
+int find_again(struct output *output);
 FILE *report_of(const struct output *output);
 
-/* lock.c: as above. Keeps other runs out of the output's folder, and clears what killed ones left. */
+/* lock.c: as above. Keeps other runs out of the output's folder, and clears what killed ones left.
+ * `lock_both` is for two outputs, which may be in one folder. */
 int lock_output(struct output *output);
+int lock_both(struct output *one, struct output *other);
 void unlock_output(struct output *output);
 extern const char *const unfinished;
 
 /* write.c: as above. */
 int write_output(struct output *output, const uint8_t *bytes, size_t length);
+int write_both(struct output *one, const uint8_t *one_bytes, size_t one_length,
+               struct output *other, const uint8_t *other_bytes, size_t other_length);
 int finish_text(int is_report);
 
 /* A draw that is short is so rare that nobody has seen one; a second is not by chance. */
@@ -110,9 +124,11 @@ int refused(const char *command, int answer, const struct input *inputs, size_t 
             const uint8_t *line, size_t length);
 int refused_package(const char *command, int answer, const struct input *inputs, size_t count,
                     const struct input *package);
+int misused(const char *command, const char *what, const char *advice);
 int refused_because(const char *command, int answer, const char *meaning, const char *advice);
 int damaged_store(const char *path, const char *how);
 void warn(const char *path, const char *what);
+extern const char *const unreplaceable;
 void print_refusals(FILE *to);
 
 /* explain.c: what is wrong first with a line that the library refuses. */
@@ -127,18 +143,20 @@ int print_profile(const uint8_t *image);
 void print_fingerprint(FILE *to, const uint8_t *key);
 
 /* store_file.c: a store's image with its checksum behind it. `open_store` looks at what was read and
- * sets the length to the image's where there is one; it answers 0 or the exit status. */
+ * sets the length to the image's where there is one, `check_slots` at what the image holds; each
+ * answers 0 or the exit status. */
 #define CHECKSUM_BYTES 32
 #define STORE_FILE_BYTES (GRIDPROFILE_STORE_IMAGE_BYTES + CHECKSUM_BYTES)
 struct input store_input(const char *path, uint8_t *bytes);
 int open_store(struct input *store);
 void seal_store(uint8_t *bytes);
-size_t broken_slot(const uint8_t *image);
+int check_slots(const struct input *store);
 
 /* verify.c: the loader's answers 1 to 5, in its order, for any device and any store. */
 int verify_package(const uint8_t *key, size_t key_length, const uint8_t *package, size_t length);
 
 /* usage.c */
+int takes_option(const char *command, const char *option);
 void print_usage(FILE *to);
 int print_help(const char *command);
 void print_synopsis(FILE *to, const char *command);

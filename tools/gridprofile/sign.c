@@ -25,8 +25,10 @@ static const char *reused;
 
 static void list_inputs(const struct request *request)
 {
-    struct input line_file = {"LINE", request->arguments[1], line, sizeof line,
-                              GRIDPROFILE_LINE_MIN_BYTES, GRIDPROFILE_LINE_MAX_BYTES, 0, 0, 0, 0};
+    struct input line_file = {.role = "LINE", .path = request->arguments[1], .bytes = line};
+    line_file.room = sizeof line;
+    line_file.least = GRIDPROFILE_LINE_MIN_BYTES;
+    line_file.most = GRIDPROFILE_LINE_MAX_BYTES;
     inputs[PRIVATE] = exact_input("PRIVATE", request->arguments[0], private_seed,
                                   GRIDPROFILE_PRIVATE_SEED_BYTES);
     inputs[LINE_FILE] = line_file;
@@ -91,8 +93,7 @@ static void check_own(void)
 static int refuse(const struct request *request)
 {
     const struct input *read = &inputs[LINE_FILE];
-    int whole = read->length > 0 && read->length < read->room;
-    int is_line = answer == GRIDPROFILE_BAD_PROFILE || (whole && !is_size_taken(read));
+    int is_line = answer == GRIDPROFILE_BAD_PROFILE || (read->length > 0 && !is_size_taken(read));
     return refused(request->command, answer, inputs, input_count, is_line ? line : NULL,
                    read->length);
 }
@@ -112,11 +113,33 @@ static int judge(const struct request *request)
     if (answer != 0)
         return refuse(request);
     if (request->key != NULL && memcmp(key, given_key, sizeof key) != 0)
-        return wrong_usage(request->command, "KEY is not the public key of PRIVATE: ",
-                           request->key);
+        return misused(request->command, "KEY is not the public key of PRIVATE",
+                       "see whether files are exchanged; `gridprofile key` makes the key of a seed");
     if (reused != NULL)
-        return wrong_usage(request->command, reused, "");
+        return misused(request->command, reused, "see whether files are exchanged; draw new seeds");
     return own_answer != 0 ? refuse_own() : 0;
+}
+
+static int check_given(const struct request *request)
+{
+    if (request->given_master == NULL && request->given_salt == NULL)
+        return 0;
+    if (request->given_master == NULL || request->given_salt == NULL || request->key == NULL)
+        return wrong_usage(request->command, "given seeds come with one another and the key, missing: ",
+                           request->given_master == NULL ? "--given-master-seed"
+                           : request->given_salt == NULL ? "--given-salt"
+                                                         : "--key");
+    return 0;
+}
+
+/* A salt is published, so that a file which is closed as seeds are is not taken for one: it may be
+ * the seed of another key. */
+static int spare_closed_salt(const struct request *request)
+{
+    if (request->given_salt == NULL || !inputs[SALT].closed)
+        return 0;
+    return misused(request->command, "SALT is a file for its owner alone, as a seed is, and a salt "
+                   "is published", "where it is a salt and no seed, chmod 644 it");
 }
 
 static int sign_and_check(const struct request *request)
@@ -142,7 +165,7 @@ static int report(struct output *output)
         return status;
     (void)gridprofile_read_line(line, inputs[LINE_FILE].length, profile, sizeof profile);
     if (serial_of(profile) == UINT32_MAX)
-        warn(inputs[LINE_FILE].path, "this serial is the greatest: nothing can replace the profile");
+        warn(input_name(&inputs[LINE_FILE]), unreplaceable);
     fputs("Signed and verified: ", report_of(output));
     print_device(report_of(output), profile);
     print_fingerprint(report_of(output), key);
@@ -151,13 +174,14 @@ static int report(struct output *output)
 
 int run_sign(const struct request *request)
 {
-    struct output output;
-    int status;
-    if ((request->given_master == NULL) != (request->given_salt == NULL) ||
-        (request->given_master != NULL && request->key == NULL))
-        return wrong_usage(request->command, "given seeds are a master seed, a salt and the key", "");
+    static struct output output;
+    int status = check_given(request);
+    if (status != 0)
+        return status;
     list_inputs(request);
     status = prepare(&output, request, request->arguments[2], PACKAGE, inputs, input_count);
+    if (status == 0)
+        status = spare_closed_salt(request);
     if (status == 0)
         status = sign_and_check(request);
     wipe(private_seed, sizeof private_seed);

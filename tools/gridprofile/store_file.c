@@ -23,14 +23,14 @@ int open_store(struct input *store)
 {
     uint8_t checksum[CHECKSUM_BYTES];
     if (store->length == GRIDPROFILE_STORE_IMAGE_BYTES) {
-        warn(store->path, "this store has no checksum, so that damage is not seen; a load adds one");
+        warn(input_name(store), "this store has no checksum, so that damage is not seen; a load adds one");
         return 0;
     }
     if (store->length != STORE_FILE_BYTES)
         return 0;
     make_checksum(store->bytes, checksum);
     if (memcmp(checksum, store->bytes + GRIDPROFILE_STORE_IMAGE_BYTES, sizeof checksum) != 0)
-        return damaged_store(store->path, "its checksum does not fit what it holds");
+        return damaged_store(input_name(store), "its checksum does not fit what it holds");
     store->length = GRIDPROFILE_STORE_IMAGE_BYTES;
     return 0;
 }
@@ -40,14 +40,54 @@ void seal_store(uint8_t *bytes)
     make_checksum(bytes, bytes + GRIDPROFILE_STORE_IMAGE_BYTES);
 }
 
-/* The first slot, from 1, that is used and breaks a rule, which none does that a load wrote; else 0. */
-size_t broken_slot(const uint8_t *image)
+static const uint8_t *slot_at(const uint8_t *image, size_t slot)
 {
-    uint8_t line[GRIDPROFILE_LINE_MAX_BYTES];
-    size_t length;
-    for (size_t at = 0; at < GRIDPROFILE_STORE_IMAGE_BYTES; at += GRIDPROFILE_PROFILE_IMAGE_BYTES)
-        if (image[at] != 0 && gridprofile_write_line(image + at, GRIDPROFILE_PROFILE_IMAGE_BYTES,
-                                                     line, sizeof line, &length) != 0)
-            return at / GRIDPROFILE_PROFILE_IMAGE_BYTES + 1;
-    return 0;
+    return image + slot * GRIDPROFILE_PROFILE_IMAGE_BYTES;
+}
+
+static int is_empty(const uint8_t *slot)
+{
+    static const uint8_t zeros[GRIDPROFILE_PROFILE_IMAGE_BYTES];
+    return memcmp(slot, zeros, sizeof zeros) == 0;
+}
+
+/* A used slot is the image of its own line. */
+static int is_profile(const uint8_t *slot)
+{
+    uint8_t line[GRIDPROFILE_LINE_MAX_BYTES], image[GRIDPROFILE_PROFILE_IMAGE_BYTES];
+    size_t length = 0;
+    return gridprofile_write_line(slot, sizeof image, line, sizeof line, &length) == 0 &&
+           gridprofile_read_line(line, length, image, sizeof image) == 0 &&
+           memcmp(slot, image, sizeof image) == 0;
+}
+
+/* Whether an earlier slot has the same country and class. */
+static int stands_before(const uint8_t *image, size_t slot)
+{
+    const uint8_t *pair = slot_at(image, slot) + GRIDPROFILE_COUNTRY_OFFSET;
+    size_t length = GRIDPROFILE_SERIAL_OFFSET - GRIDPROFILE_COUNTRY_OFFSET, at = 0;
+    while (at < slot && memcmp(slot_at(image, at) + GRIDPROFILE_COUNTRY_OFFSET, pair, length) != 0)
+        at++;
+    return at < slot;
+}
+
+/* The first slot, from 1, that no run of loads from an empty store leaves so; else 0. */
+static size_t unsound_slot(const uint8_t *image)
+{
+    size_t slot = 0;
+    while (slot < GRIDPROFILE_STORE_SLOTS &&
+           (is_empty(slot_at(image, slot)) ||
+            (is_profile(slot_at(image, slot)) && !stands_before(image, slot))))
+        slot++;
+    return slot < GRIDPROFILE_STORE_SLOTS ? slot + 1 : 0;
+}
+
+int check_slots(const struct input *store)
+{
+    char how[80];
+    size_t slot = unsound_slot(store->bytes);
+    if (slot == 0)
+        return 0;
+    (void)snprintf(how, sizeof how, "slot %zu holds what no load leaves there", slot);
+    return damaged_store(input_name(store), how);
 }

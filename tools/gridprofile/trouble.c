@@ -83,6 +83,9 @@ void warn(const char *path, const char *what)
     fprintf(stderr, ": %s\n", what);
 }
 
+/* Of a profile with the greatest serial. */
+const char *const unreplaceable = "this serial is the greatest: nothing can replace the profile";
+
 int damaged_store(const char *path, const char *how)
 {
     fputs("gridprofile: the store ", stderr);
@@ -103,7 +106,7 @@ static void print_size(const struct input *input)
     if (is_size_taken(input))
         return;
     fprintf(stderr, "  %s (", input->role);
-    print_name(input->path);
+    print_name(input_name(input));
     fprintf(stderr, ") has %s%zu bytes", more ? "at least " : "", input->size);
     if (name != NULL && !more)
         fprintf(stderr, ", the size of %s", name);
@@ -113,6 +116,9 @@ static void print_size(const struct input *input)
     if (input->also != 0)
         fprintf(stderr, " or %zu", input->also);
     fputc('\n', stderr);
+    if (name == NULL && strcmp(input->role, "STORE") == 0)
+        fputs("  If it was a store, it is damaged: cut off, or with something added. Take a copy from\n"
+              "  before, or make a new one and load the newest packages again.\n", stderr);
 }
 
 static void print_heading(const char *command, int answer, const char *meaning)
@@ -125,6 +131,13 @@ static void print_advice(const char *advice)
     fprintf(stderr, "  What to do: %s.\n", advice);
 }
 
+int misused(const char *command, const char *what, const char *advice)
+{
+    fprintf(stderr, "gridprofile %s: %s\n", command, what);
+    print_advice(advice);
+    return WRONG_USAGE;
+}
+
 int refused_because(const char *command, int answer, const char *meaning, const char *advice)
 {
     print_heading(command, answer, meaning);
@@ -132,16 +145,28 @@ int refused_because(const char *command, int answer, const char *meaning, const 
     return answer;
 }
 
+/* What helps to find the cause, of one input. */
+static void print_input(int answer, const struct input *input)
+{
+    if (answer == GRIDPROFILE_BAD_SIZE)
+        print_size(input);
+    if (answer == GRIDPROFILE_MISMATCH && strcmp(input->role, "KEY") == 0) {
+        fputs("  ", stderr);
+        print_fingerprint(stderr, input->bytes);
+    }
+}
+
 int refused(const char *command, int answer, const struct input *inputs, size_t count,
             const uint8_t *line, size_t length)
 {
     const struct refusal *refusal = &refusals[answer - 1];
+    const struct refusal *on_line = &refusals[GRIDPROFILE_BAD_PROFILE - 1];
     print_heading(command, answer, refusal->meaning);
-    for (size_t at = 0; answer == GRIDPROFILE_BAD_SIZE && at < count; at++)
-        print_size(&inputs[at]);
+    for (size_t at = 0; at < count; at++)
+        print_input(answer, &inputs[at]);
     if (line != NULL)
         explain_line(stderr, line, length);
-    print_advice(refusal->advice);
+    print_advice(line != NULL ? on_line->advice : refusal->advice);
     return answer;
 }
 

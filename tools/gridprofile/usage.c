@@ -14,19 +14,21 @@ struct page {
 static const struct page pages[] = {
     {"new-key", "PRIVATE KEY", "[--force] [--wait SECONDS]", "draw a private seed and make its key",
      "Draws a private seed from the operating system, and writes it to PRIVATE, which only its owner\n"
-     "may read, and its public key to KEY. PRIVATE must not exist, whatever the options are. Keep it:\n"
-     "nobody can make it again. Both files are written, or none.\n"},
+     "may read, and its public key to KEY, which is for everybody. PRIVATE must not exist, whatever\n"
+     "the options are. Keep it: nobody can make it again. Both files are written, or none.\n"},
     {"key", "PRIVATE KEY", "[--force] [--wait SECONDS]", "make the key of a private seed again",
      "Makes the public key of a private seed that there is, for instance after the key was lost.\n"},
     {"sign", "PRIVATE LINE PACKAGE",
-     "[--key KEY] [--force] [--wait SECONDS] [--given-master-seed MASTER --given-salt SALT]",
+     "[--force] [--wait SECONDS] [--key KEY] "
+     "[--given-master-seed MASTER --given-salt SALT --key KEY]",
      "sign a profile line, which makes a package",
      "Signs the line under the private seed, verifies the package, and writes it. Master seed and salt\n"
      "are drawn from the operating system. With --key it signs only where KEY is PRIVATE's own.\n"
      "\n"
      "For tests and recovery both can be given, with the key: the same seeds, salt and line make the\n"
      "same package. Never give the same two for another line: that can give the private seed away.\n"
-     "Seeds that share bytes with one another, with the salt or with the package are refused.\n"},
+     "The salt is published at the front of the package. Seeds that share bytes with one another or\n"
+     "with the package are refused, and so is a salt in a file for its owner alone, as seeds are.\n"},
     {"verify", "KEY PACKAGE", "", "verify a package: its signature, then its line",
      "Prints which device the package is for, and the key's fingerprint, which is to be compared with\n"
      "what the signer reads aloud.\n"},
@@ -138,6 +140,10 @@ int print_help(const char *command)
     const struct page *page = find_page(command);
     if (strcmp(command, "line") == 0) {
         fputs(line_rules, stdout);
+        return 0;
+    }
+    if (strcmp(command, "help") == 0) {
+        print_usage(stdout);
         return 0;
     }
     if (page == NULL)

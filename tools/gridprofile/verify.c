@@ -29,7 +29,9 @@ int run_verify(const struct request *request)
         exact_input("KEY", request->arguments[0], key, GRIDPROFILE_KEY_BYTES),
         package_input(request->arguments[1], package),
     };
-    int status = read_inputs(inputs, COUNT(inputs)), answer;
+    int status = check_streams(request, inputs, COUNT(inputs)), answer;
+    if (status == 0)
+        status = read_inputs(inputs, COUNT(inputs));
     if (status != 0)
         return status;
     answer = verify_package(key, inputs[0].length, package, inputs[1].length);

@@ -51,7 +51,7 @@ static int fill(const struct output *output, int file, const char *name, const u
 {
     int status = 0;
     if (keep_owner(output, file) != 0)
-        status = trouble(output, "its owner cannot be kept: ");
+        status = trouble(output, "its owner cannot be kept, so that only its owner can write it: ");
     else if (write_all(file, bytes, length) != 0 || fchmod(file, output->mode) != 0 ||
              fsync(file) != 0)
         status = trouble(output, "");
@@ -62,46 +62,46 @@ static int fill(const struct output *output, int file, const char *name, const u
     return status;
 }
 
-/* Writes a new file beside the target, and its name to `name`, which has PATH_MAX bytes. */
-static int write_beside(const struct output *output, char *name, const uint8_t *bytes, size_t length)
+/* Writes a new file beside the target. */
+static int begin(struct output *output, const uint8_t *bytes, size_t length)
 {
-    int size = snprintf(name, PATH_MAX, "%s/%sXXXXXX", output->folder, unfinished), file;
-    if (size < 0 || size >= PATH_MAX)
+    int size = snprintf(output->begun, sizeof output->begun, "%s/%sXXXXXX", output->folder,
+                        unfinished);
+    int file;
+    if (size < 0 || (size_t)size >= sizeof output->begun)
         return file_trouble("write", output->path, strerror(ENAMETOOLONG));
-    file = mkstemp(name);
-    return file < 0 ? trouble(output, "") : fill(output, file, name, bytes, length);
+    file = mkstemp(output->begun);
+    return file < 0 ? trouble(output, "") : fill(output, file, output->begun, bytes, length);
 }
 
-/* Gives the file its name. Where there was none by this name, none that came since is replaced; a
+/* Gives the new file its name. Where there was none by this name, none that came since is replaced; a
  * file system that cannot promise that gets a second name for the file, which it refuses likewise. */
-static int place(const struct output *output, const char *name)
+static int give_name(const struct output *output)
 {
     if (output->exists)
-        return rename(name, output->target);
-    if (renameat2(AT_FDCWD, name, AT_FDCWD, output->target, RENAME_NOREPLACE) == 0)
+        return rename(output->begun, output->target);
+    if (renameat2(AT_FDCWD, output->begun, AT_FDCWD, output->target, RENAME_NOREPLACE) == 0)
         return 0;
     if (errno != EINVAL && errno != ENOSYS)
         return -1;
-    if (link(name, output->target) != 0)
+    if (link(output->begun, output->target) != 0)
         return -1;
-    (void)unlink(name);
+    (void)unlink(output->begun);
     return 0;
 }
 
 /* The new name is made to last through a loss of power. Where a file system cannot do that for a
  * folder, the file is whole all the same. */
-static int replace(const struct output *output, const uint8_t *bytes, size_t length)
+static int place(const struct output *output)
 {
-    char name[PATH_MAX];
-    int status = write_beside(output, name, bytes, length);
-    if (status != 0)
-        return status;
-    if (place(output, name) != 0) {
+    int status;
+    if (give_name(output) != 0) {
         status = trouble(output, "");
-        (void)unlink(name);
+        (void)unlink(output->begun);
         return status;
     }
-    (void)fsync(output->lock);
+    if (output->lock >= 0)
+        (void)fsync(output->lock);
     return 0;
 }
 
@@ -112,21 +112,72 @@ static int write_stream(const uint8_t *bytes, size_t length)
     return 0;
 }
 
+/* An interruption between the steps would leave the temporary file until the next run. */
+static void hold_signals(sigset_t *before)
+{
+    sigset_t all;
+    (void)sigfillset(&all);
+    (void)sigprocmask(SIG_BLOCK, &all, before);
+}
+
+static void release_signals(const sigset_t *before)
+{
+    (void)sigprocmask(SIG_SETMASK, before, NULL);
+}
+
 int write_output(struct output *output, const uint8_t *bytes, size_t length)
 {
-    sigset_t all, before;
+    sigset_t before;
     int status;
     if (is_stream(output->path))
         return write_stream(bytes, length);
     status = lock_output(output);
     if (status != 0)
         return status;
-    /* an interruption between the two steps would leave the temporary file until the next run */
-    (void)sigfillset(&all);
-    (void)sigprocmask(SIG_BLOCK, &all, &before);
-    status = replace(output, bytes, length);
-    (void)sigprocmask(SIG_SETMASK, &before, NULL);
+    hold_signals(&before);
+    status = begin(output, bytes, length);
+    if (status == 0)
+        status = place(output);
+    release_signals(&before);
     unlock_output(output);
+    return status;
+}
+
+/* The first is taken back where the second does not get its name: nobody else has it yet, as the
+ * folder is locked. */
+static int place_both(const struct output *one, const struct output *other)
+{
+    int status = place(one);
+    if (status != 0) {
+        (void)unlink(other->begun);
+        return status;
+    }
+    status = place(other);
+    if (status != 0 && unlink(one->target) != 0)
+        return trouble(one, "it is written, although the other file is not: ");
+    return status;
+}
+
+/* Both files or none. */
+int write_both(struct output *one, const uint8_t *one_bytes, size_t one_length,
+               struct output *other, const uint8_t *other_bytes, size_t other_length)
+{
+    sigset_t before;
+    int status = lock_both(one, other);
+    if (status != 0)
+        return status;
+    hold_signals(&before);
+    status = begin(one, one_bytes, one_length);
+    if (status == 0) {
+        status = begin(other, other_bytes, other_length);
+        if (status != 0)
+            (void)unlink(one->begun);
+        else
+            status = place_both(one, other);
+    }
+    release_signals(&before);
+    unlock_output(one);
+    unlock_output(other);
     return status;
 }
 
