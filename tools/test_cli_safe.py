@@ -21,7 +21,7 @@ UNFINISHED = ".gridprofile-unfinished-"
 
 # Stands between the program and what it relies on. Random bytes come from a file, five at a time and with
 # interruptions, and end where it ends. A package is made with a bit changed, or with the private seed in it. The run is
-# killed where its new file would get its name.
+# killed where its new file would get its name. There is no /dev/null.
 PLANTED = r"""
 #define _GNU_SOURCE
 #include <errno.h>
@@ -60,6 +60,16 @@ int __wrap_renameat2(int from, const char *old, int to, const char *new, unsigne
     return -1;
 }
 
+int __real_open(const char *path, int flags, ...);
+int __wrap_open(const char *path, int flags, ...);
+int __wrap_open(const char *path, int flags, ...)
+{
+    if (getenv("PLANTED_NO_NULL") == NULL || strcmp(path, "/dev/null") != 0)
+        return __real_open(path, flags);
+    errno = ENOENT;
+    return -1;
+}
+
 #define ARGUMENTS const uint8_t *seed, size_t seed_length, const uint8_t *master, size_t master_length,               \
     const uint8_t *salt, size_t salt_length, const uint8_t *line, size_t line_length, uint8_t *package, size_t room,  \
     size_t *length
@@ -76,7 +86,7 @@ uint8_t __wrap_gridprofile_make_package(ARGUMENTS)
     return answer;
 }
 """
-WRAPPED = "-Wl,--wrap=getrandom,--wrap=renameat2,--wrap=gridprofile_make_package"
+WRAPPED = "-Wl,--wrap=getrandom,--wrap=renameat2,--wrap=open,--wrap=gridprofile_make_package"
 BUILT = []
 
 
@@ -234,6 +244,15 @@ class Faults(Planted):
         self.done("sign", "private", "line", "out", planted={"OLD_FILE_SYSTEM": 1})
         self.done("verify", "key", "out")
         self.assertEqual([name for name in self.names() if name.startswith(UNFINISHED)], [])
+
+    def test_closed_stream_that_cannot_be_occupied(self):
+        self.package()
+        for stream in (0, 1, 2):
+            ran = self.run_in("sign", "private", "line", "out", planted={"NO_NULL": 1},
+                              preexec_fn=lambda at=stream: os.close(at))
+            self.assertEqual((ran.returncode, ran.stdout, ran.stderr), (FILE_TROUBLE, b"", b""))
+            self.assertNotIn("out", self.names())
+        self.done("sign", "private", "line", "out", planted={"NO_NULL": 1})
 
 
 class DrawnSecrets(Planted, Memory):

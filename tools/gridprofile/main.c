@@ -37,12 +37,14 @@ static void hold_signals(void)
 }
 
 /* A file that we open must not get the number of a stream that was closed: what is printed would go
- * into it. So each closed stream becomes one that cannot be used. */
-static void occupy_streams(void)
+ * into it. So each closed stream becomes one that cannot be used; answers whether none is left. */
+static int occupy_streams(void)
 {
     for (int stream = STDIN_FILENO; stream <= STDERR_FILENO; stream++)
-        if (fcntl(stream, F_GETFD) < 0)
-            (void)open("/dev/null", stream == STDIN_FILENO ? O_WRONLY : O_RDONLY);
+        if (fcntl(stream, F_GETFD) < 0 &&
+            open("/dev/null", stream == STDIN_FILENO ? O_WRONLY : O_RDONLY) != stream)
+            return 0;
+    return 1;
 }
 
 /* Help and version, of the whole program: answers whether the words ask for it. */
@@ -104,7 +106,8 @@ static int run(char **words, int *is_report)
 int main(int count, char **words)
 {
     int status, written, is_report = 0;
-    occupy_streams();
+    if (!occupy_streams())
+        return FILE_TROUBLE;
     hold_signals();
     (void)setvbuf(stderr, NULL, _IOLBF, BUFSIZ); /* whole lines, also beside other runs */
     keep_no_core(); /* for every command, since a seed may be given by mistake */
