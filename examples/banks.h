@@ -15,9 +15,13 @@
  * Where the bank that counts is damaged later, the older store counts again: two banks cannot tell
  * that from a cut. A store that is committed twice stands in both, and outlasts that too.
  *
+ * The digest tells damage, not forgery: whoever can program the flash can make a record.
+ *
  * Assumed of the flash: a byte reads the same each time until its bank is erased or programmed,
  * also one whose change was cut. A part that does not promise that has a stricter read, with a
- * margin: the driver uses it as well, and fails where the two differ. */
+ * margin: the driver uses it as well, and fails where the two differ.
+ *
+ * Each function has both records on the stack: it needs about 3 KB, and what the driver needs. */
 #ifndef BANKS_H
 #define BANKS_H
 
@@ -27,21 +31,28 @@
 
 #include "gridprofile.h"
 
+#ifdef __cplusplus
+extern "C" {
+#endif
+
 #define BANKS_COUNT 2
 #define BANKS_COUNTER_BYTES 4
 #define BANKS_DIGEST_OFFSET (BANKS_COUNTER_BYTES + GRIDPROFILE_STORE_IMAGE_BYTES)
 #define BANKS_RECORD_BYTES (BANKS_DIGEST_OFFSET + GRIDPROFILE_DIGEST_BYTES)
 
-/* What a byte of erased flash reads as. */
+/* What a byte of erased flash reads as; on some parts that is 0. */
 #define BANKS_ERASED 0xFF
 
-/* The driver, which firmware supplies. Banks are 0 and 1, and each has BANKS_RECORD_BYTES or more.
- * Each function says whether it was done.
+/* The driver, which firmware supplies. Banks are 0 and 1, and each has BANKS_RECORD_BYTES or more, in
+ * sectors of its own: what erases or programs one must not touch the other. Each function says
+ * whether it was done, and returns only when the part has ended its work.
  *
- * erase: the whole bank. program: bytes of an erased bank, from the lowest offset up; a driver for
- * words pads the last one. read: fails where the part reports bytes that it cannot correct, as some
- * do where programming was cut: the bank is then not whole. A driver repeats a read whose failure
- * may pass, since the older store counts where the newer one cannot be read. */
+ * erase: the whole bank. program: bytes of an erased bank, from the lowest offset up, each word or
+ * page once; a driver for words pads the last one with BANKS_ERASED. read: from the flash itself, not
+ * from a cache, which may still have what was there before. It fails where the part reports bytes
+ * that it cannot correct, as some do where programming was cut: the bank is then not whole. A driver
+ * repeats a read whose failure may pass, since the older store counts where the newer one cannot be
+ * read. */
 struct banks_flash {
     bool (*erase)(unsigned bank);
     bool (*program)(unsigned bank, size_t offset, const uint8_t *bytes, size_t length);
@@ -52,7 +63,7 @@ enum banks_answer {
     BANKS_DONE = 0,   /* found, committed, formatted */
     BANKS_BLANK,      /* both banks are erased: a device that was never formatted */
     BANKS_DAMAGED,    /* no bank is whole, and not both are erased: the store is lost */
-    BANKS_FAILED,     /* the flash failed, or reads back other bytes: it is not committed */
+    BANKS_FAILED,     /* the flash failed, or reads back other bytes: read the banks again */
     BANKS_NO_COUNTER, /* the counter has its greatest value, so that no record can be newer */
     BANKS_IN_USE      /* a bank is whole: formatting would lose its store */
 };
@@ -72,5 +83,9 @@ enum banks_answer banks_commit(const struct banks_flash *flash,
 
 /* Makes a new device, with the empty store. It refuses with BANKS_IN_USE where a bank is whole. */
 enum banks_answer banks_format(const struct banks_flash *flash);
+
+#ifdef __cplusplus
+}
+#endif
 
 #endif

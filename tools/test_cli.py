@@ -707,6 +707,13 @@ class Firmware(Case):
         said = b"verify answers 0\nload answers 0\ncommit answers 3\nlookup answers 9\n"
         self.assertEqual(ran, (100, said + b"load of the same package again answers 0\n"))
 
+    def test_banks_in_a_program_in_cpp(self):
+        main = b'#include "banks.h"\nint main() { return banks_format(nullptr) == BANKS_DONE; }\n'
+        include = ["-Wall", "-Wextra", "-Werror", "-pedantic", "-I", "include", "-I", "examples"]
+        self.build(["gcc", "-std=c11", *include, "-c", "examples/banks.c", "-o", self.path("banks.o")])
+        self.build(["g++", "-std=c++11", *include, self.path(self.put("main.cpp", main)), self.path("banks.o"), ARCHIVE,
+                    "-o", self.path("program")])
+
     def test_flash_without_a_store(self):
         """The last byte of every record is lost: the device does not start with an empty store."""
         ran = self.with_flash(self.TAKES, self.TAKES.replace("length", "length - 1"))
