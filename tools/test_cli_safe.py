@@ -389,6 +389,29 @@ class Existing(Case):
         self.assertIn(b"cannot write out: it exists; --force replaces it", said)
         self.assertEqual([name for name in self.names() if name.startswith(UNFINISHED)], [])
 
+    def test_file_that_becomes_another_meanwhile_is_not_replaced(self):
+        """As before, with a package that may be replaced: it is, unless a seed, a key or a store got its name since."""
+        self.package()
+        os.mkfifo(self.path("pipe"))
+        for became, status in ((PRIVATE, FILE_TROUBLE), (self.get("key"), FILE_TROUBLE), (EMPTY, FILE_TROUBLE),
+                               (self.get("package"), 0), (None, 0)):
+            self.put("out", self.get("package"))
+            process = subprocess.Popen([PROGRAM, "sign", "private", "pipe", "out", "--force"], cwd=self.folder,
+                                       stdout=subprocess.PIPE, stderr=subprocess.PIPE)
+            with open(self.path("pipe"), "wb") as pipe:
+                os.remove(self.path("out"))
+                if became is not None:
+                    self.put("out", became)
+                pipe.write(LINE)
+            said = process.communicate(timeout=60)[1]
+            self.assertEqual(process.returncode, status)
+            if status == 0:
+                self.done("verify", "key", "out")
+            else:
+                self.assertEqual(self.get("out"), became)
+                self.assertIn(b"cannot write out: it exists and has the size of ", said)
+            self.assertEqual([name for name in self.names() if name.startswith(UNFINISHED)], [])
+
 
 class Readable(Case):
     def test_seed_that_others_can_read_gets_a_warning(self):

@@ -1,6 +1,6 @@
 /* The lock on an output's folder. It is on the folder, since the file itself is replaced, and ends
- * with the program. Temporary files are made only under it, so that whoever has it knows that those
- * which are there are left over from a run that was killed. */
+ * with the program. Where a folder can be locked, temporary files are made only under the lock, so
+ * that whoever has it knows that those which are there are left over from a run that was killed. */
 #include "program.h"
 
 #include <dirent.h>

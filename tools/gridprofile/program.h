@@ -132,7 +132,7 @@ extern const char *const unreplaceable;
 void print_refusals(FILE *to);
 
 /* explain.c: what is wrong first with a line that the library refuses. */
-void explain_line(FILE *to, const uint8_t *line, size_t length);
+void explain_line(FILE *to, const uint8_t *bytes, size_t length);
 
 /* words.c: prints a profile's image, or answers 5 where it breaks a rule. */
 uint32_t serial_of(const uint8_t *image);
