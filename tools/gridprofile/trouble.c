@@ -71,7 +71,7 @@ int wrong_usage(const char *command, const char *what, const char *which)
 int file_trouble(const char *doing, const char *path, const char *why)
 {
     fprintf(stderr, "gridprofile: cannot %s ", doing);
-    print_name(path);
+    print_name(*path ? path : "\"\"");
     fprintf(stderr, ": %s\n", why);
     return FILE_TROUBLE;
 }
@@ -88,6 +88,7 @@ const char *const unreplaceable = "this serial is the greatest: nothing can repl
 
 int damaged_store(const char *path, const char *how)
 {
+    (void)fflush(stdout);
     fputs("gridprofile: the store ", stderr);
     print_name(path);
     fprintf(stderr, " is damaged: %s\n", how);
@@ -121,8 +122,10 @@ static void print_size(const struct input *input)
               "  before, or make a new one and load the newest packages again.\n", stderr);
 }
 
+/* After what was printed already, also where both streams go to one file. */
 static void print_heading(const char *command, int answer, const char *meaning)
 {
+    (void)fflush(stdout);
     fprintf(stderr, "gridprofile %s: refused with %d: %s\n", command, answer, meaning);
 }
 
