@@ -602,6 +602,18 @@ class Many(Case):
             self.done("verify", "key", f"out{at}")
         self.assertEqual([name for name in self.names() if name.startswith(UNFINISHED)], [])
 
+    def test_two_folders_are_locked_in_one_order(self):
+        """Whichever of them gets the seed: so no two runs wait for one another."""
+        os.mkdir(self.path("one")), os.mkdir(self.path("two"))
+        first, second = (os.open(self.path(name), os.O_RDONLY) for name in ("one", "two"))
+        fcntl.flock(first, fcntl.LOCK_EX)
+        runs = [subprocess.Popen([PROGRAM, "new-key", *names], cwd=self.folder, stdout=subprocess.DEVNULL)
+                for names in (("one/a", "two/a.key"), ("two/b", "one/b.key"))]
+        time.sleep(0.5)
+        fcntl.flock(second, fcntl.LOCK_EX | fcntl.LOCK_NB)
+        os.close(first), os.close(second)
+        self.assertEqual([run.wait(60) for run in runs], [0, 0])
+
     def test_one_of_many_makes_the_file(self):
         self.package()
         runs = [subprocess.Popen([PROGRAM, "new-key", f"private{at}", "pub"], cwd=self.folder,

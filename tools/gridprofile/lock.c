@@ -106,20 +106,23 @@ static int is_locked_by(const struct output *output, const struct output *other)
            own.st_dev == locked.st_dev && own.st_ino == locked.st_ino;
 }
 
+/* In the order of the folders' names, so that two runs cannot wait for one another. */
 int lock_both(struct output *one, struct output *other)
 {
-    int status = lock_output(one);
+    int ordered = strcmp(one->folder, other->folder) <= 0, status;
+    struct output *first = ordered ? one : other, *second = ordered ? other : one;
+    status = lock_output(first);
     if (status != 0)
         return status;
-    if (is_locked_by(other, one)) {
-        other->lock = fcntl(one->lock, F_DUPFD_CLOEXEC, 0);
-        status = find_again(other);
+    if (is_locked_by(second, first)) {
+        second->lock = fcntl(first->lock, F_DUPFD_CLOEXEC, 0);
+        status = find_again(second);
     } else {
-        status = lock_output(other);
+        status = lock_output(second);
     }
     if (status != 0) {
-        unlock_output(one);
-        unlock_output(other);
+        unlock_output(first);
+        unlock_output(second);
     }
     return status;
 }
