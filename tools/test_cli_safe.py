@@ -14,7 +14,7 @@ import time
 
 from cli_case import (ARCHIVE, FILE_TROUBLE, GIVEN, IMAGE, LINE, LINE_C, MASTER, NO_RANDOM_BYTES, PRIVATE, PROGRAM, ROOT, SALT,
                       SELF_CHECK_FAILED, SIGNATURE, STORE, WRONG_USAGE, Case, fingerprint, line_of, sealed, shake)
-from test_cli_files import HIDDEN, NOBODY, READS_INPUT, WRITES_OUTPUT, Memory, call_of, wait_for
+from test_cli_files import HIDDEN, NOBODY, READS_INPUT, WRITES_OUTPUT, Memory, call_of, search_traces, wait_for
 
 EMPTY = sealed(bytes(IMAGE))
 UNFINISHED = ".gridprofile-unfinished-"
@@ -103,7 +103,7 @@ class Planted(Case):
             with open(program + ".c", "w", encoding="ascii") as file:
                 file.write(PLANTED)
             gcc = ["gcc", "-std=c11", "-O2", "-Wall", "-Wextra", "-Werror", "-I", os.path.join(ROOT, "include"), *names,
-                   program + ".c", ARCHIVE, WRAPPED, "-o", program]
+                   program + ".c", ARCHIVE, WRAPPED, "-Wl,-z,now", "-o", program]
             subprocess.run(gcc, check=True)
             BUILT.append(program)
         self.program = BUILT[0]
@@ -263,7 +263,7 @@ class DrawnSecrets(Planted, Memory):
         after = self.memory_at(WRITES_OUTPUT)
         package = self.written()
         self.assertIn(package, after)
-        secrets = self.key_secrets() + self.round_secrets(package)
+        secrets = self.key_secrets() + self.round_secrets(package) + search_traces(HIDDEN[1])
         self.assertEqual([secret.hex() for secret in secrets if secret in after], [])
 
 
