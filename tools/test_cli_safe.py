@@ -60,6 +60,16 @@ int __wrap_renameat2(int from, const char *old, int to, const char *new, unsigne
     return -1;
 }
 
+int __real_link(const char *old, const char *new);
+int __wrap_link(const char *old, const char *new);
+int __wrap_link(const char *old, const char *new)
+{
+    if (getenv("PLANTED_NO_LINKS") == NULL)
+        return __real_link(old, new);
+    errno = EPERM;
+    return -1;
+}
+
 int __real_open(const char *path, int flags, ...);
 int __wrap_open(const char *path, int flags, ...);
 int __wrap_open(const char *path, int flags, ...)
@@ -86,7 +96,7 @@ uint8_t __wrap_gridprofile_make_package(ARGUMENTS)
     return answer;
 }
 """
-WRAPPED = "-Wl,--wrap=getrandom,--wrap=renameat2,--wrap=open,--wrap=gridprofile_make_package"
+WRAPPED = "-Wl,--wrap=getrandom,--wrap=renameat2,--wrap=link,--wrap=open,--wrap=gridprofile_make_package"
 BUILT = []
 
 
@@ -240,10 +250,16 @@ class Faults(Planted):
             os.remove(self.path("out"))
 
     def test_file_system_that_cannot_refuse_by_name(self):
+        """New files get their names by another call, and where there are no links either, by an empty file."""
         self.package()
-        self.done("sign", "private", "line", "out", planted={"OLD_FILE_SYSTEM": 1})
-        self.done("verify", "key", "out")
-        self.assertEqual([name for name in self.names() if name.startswith(UNFINISHED)], [])
+        for planted in ({"OLD_FILE_SYSTEM": 1}, {"OLD_FILE_SYSTEM": 1, "NO_LINKS": 1}):
+            self.done("sign", "private", "line", "out", planted=planted)
+            self.done("verify", "key", "out")
+            self.done("new-key", "fresh", "fresh.key", planted=planted)
+            self.assertEqual(stat.S_IMODE(os.stat(self.path("fresh")).st_mode), 0o600)
+            self.assertEqual([name for name in self.names() if name.startswith(UNFINISHED)], [])
+            for name in ("out", "fresh", "fresh.key"):
+                os.remove(self.path(name))
 
     def test_closed_stream_that_cannot_be_occupied(self):
         self.package()
@@ -526,6 +542,23 @@ class Locks(Case):
         status, said = next(run)
         self.assertEqual((status, self.get("out")), (FILE_TROUBLE, HIDDEN[0]))
         self.assertIn(b"out: it exists and has the size of a private seed", said)
+
+    def test_folder_that_is_another_meanwhile(self):
+        self.package()
+        for name in ("folder", "new"):
+            os.mkdir(self.path(name))
+            self.put(name + "/store", EMPTY)
+        folder = os.open(self.path("folder"), os.O_RDONLY)
+        fcntl.flock(folder, fcntl.LOCK_EX)
+        process = subprocess.Popen([PROGRAM, "load", "folder/store", "key", "package", "XA", "B"], cwd=self.folder,
+                                   stdout=subprocess.PIPE, stderr=subprocess.PIPE)
+        self.assertIn(b"waiting", process.stderr.readline())
+        os.rename(self.path("folder"), self.path("old")), os.rename(self.path("new"), self.path("folder"))
+        os.close(folder)
+        said = process.communicate(timeout=60)[1]
+        self.assertEqual((process.returncode, self.get("folder/store"), self.get("old/store")),
+                         (FILE_TROUBLE, EMPTY, EMPTY))
+        self.assertIn(b"folder/store: its folder is another one now; try again", said)
 
     def test_permissions_that_change_meanwhile_count(self):
         run = self.waits("load", "store", "key", "package", "XA", "B")

@@ -29,8 +29,10 @@ static int cannot_lock(struct output *output)
 {
     int reason = errno;
     unlock_output(output);
-    return output->is_changed ? file_trouble("lock the folder of", output->path, strerror(reason))
-                              : 0;
+    if (!output->is_changed)
+        return 0;
+    fputs("gridprofile: a store must be in a folder that can be read and locked\n", stderr);
+    return file_trouble("lock the folder of", output->path, strerror(reason));
 }
 
 /* Tries until the time is over, and says so once where it takes more than a second. */
@@ -76,10 +78,20 @@ static void remove_leftovers(const char *path, int folder)
     (void)closedir(names);
 }
 
+/* Whether a file lies in the folder that is locked, for it or for another file. */
+static int is_locked_by(const struct output *output, const struct output *other)
+{
+    struct stat own, locked;
+    return other->lock >= 0 && stat(output->folder, &own) == 0 && fstat(other->lock, &locked) == 0 &&
+           own.st_dev == locked.st_dev && own.st_ino == locked.st_ino;
+}
+
 /* What is found under the lock is what counts. */
 static int settle_lock(struct output *output)
 {
     int status = find_again(output);
+    if (status == 0 && output->lock >= 0 && !is_locked_by(output, output))
+        status = file_trouble("write", output->path, "its folder is another one now; try again");
     if (status != 0)
         unlock_output(output);
     else if (output->lock >= 0)
@@ -97,15 +109,6 @@ int lock_output(struct output *output)
     return status != 0 ? status : settle_lock(output);
 }
 
-/* Whether a file lies in the folder that is locked for another: a second lock would wait for the
- * first. */
-static int is_locked_by(const struct output *output, const struct output *other)
-{
-    struct stat own, locked;
-    return other->lock >= 0 && stat(output->folder, &own) == 0 && fstat(other->lock, &locked) == 0 &&
-           own.st_dev == locked.st_dev && own.st_ino == locked.st_ino;
-}
-
 /* In the order of the folders' names, so that two runs cannot wait for one another. */
 int lock_both(struct output *one, struct output *other)
 {
@@ -114,7 +117,7 @@ int lock_both(struct output *one, struct output *other)
     status = lock_output(first);
     if (status != 0)
         return status;
-    if (is_locked_by(second, first)) {
+    if (is_locked_by(second, first)) { /* a second lock would wait for the first */
         second->lock = fcntl(first->lock, F_DUPFD_CLOEXEC, 0);
         status = find_again(second);
     } else {

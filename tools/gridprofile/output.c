@@ -104,7 +104,7 @@ static int spare_old(const struct output *output, size_t size)
 
 static int find(struct output *output)
 {
-    struct stat found;
+    struct stat found = {0};
     int status;
     output->exists = 0;
     if (realpath(output->path, output->target) == NULL)

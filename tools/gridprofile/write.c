@@ -74,6 +74,19 @@ static int begin(struct output *output, const uint8_t *bytes, size_t length)
     return file < 0 ? trouble(output, "") : fill(output, file, output->begun, bytes, length);
 }
 
+/* Where a file system has no other way: the name is taken by an empty file, which is then replaced. */
+static int take_name(const struct output *output)
+{
+    int file = open(output->target, O_WRONLY | O_CREAT | O_EXCL | O_CLOEXEC, 0600);
+    if (file < 0)
+        return -1;
+    (void)close(file);
+    if (rename(output->begun, output->target) == 0)
+        return 0;
+    (void)unlink(output->target);
+    return -1;
+}
+
 /* Gives the new file its name. Where there was none by this name, none that came since is replaced; a
  * file system that cannot promise that gets a second name for the file, which it refuses likewise. */
 static int give_name(const struct output *output)
@@ -85,7 +98,7 @@ static int give_name(const struct output *output)
     if (errno != EINVAL && errno != ENOSYS)
         return -1;
     if (link(output->begun, output->target) != 0)
-        return -1;
+        return errno == EEXIST ? -1 : take_name(output);
     (void)unlink(output->begun);
     return 0;
 }
@@ -113,14 +126,14 @@ static int write_stream(const uint8_t *bytes, size_t length)
 }
 
 /* An interruption between the steps would leave the temporary file until the next run. */
-static void hold_signals(sigset_t *before)
+static void block_signals(sigset_t *before)
 {
     sigset_t all;
     (void)sigfillset(&all);
     (void)sigprocmask(SIG_BLOCK, &all, before);
 }
 
-static void release_signals(const sigset_t *before)
+static void unblock_signals(const sigset_t *before)
 {
     (void)sigprocmask(SIG_SETMASK, before, NULL);
 }
@@ -134,11 +147,11 @@ int write_output(struct output *output, const uint8_t *bytes, size_t length)
     status = lock_output(output);
     if (status != 0)
         return status;
-    hold_signals(&before);
+    block_signals(&before);
     status = begin(output, bytes, length);
     if (status == 0)
         status = place(output);
-    release_signals(&before);
+    unblock_signals(&before);
     unlock_output(output);
     return status;
 }
@@ -166,7 +179,7 @@ int write_both(struct output *one, const uint8_t *one_bytes, size_t one_length,
     int status = lock_both(one, other);
     if (status != 0)
         return status;
-    hold_signals(&before);
+    block_signals(&before);
     status = begin(one, one_bytes, one_length);
     if (status == 0) {
         status = begin(other, other_bytes, other_length);
@@ -175,7 +188,7 @@ int write_both(struct output *one, const uint8_t *one_bytes, size_t one_length,
         else
             status = place_both(one, other);
     }
-    release_signals(&before);
+    unblock_signals(&before);
     unlock_output(one);
     unlock_output(other);
     return status;
@@ -184,7 +197,9 @@ int write_both(struct output *one, const uint8_t *one_bytes, size_t one_length,
 /* Where the text only tells of a file that is written, that it cannot be written is no failure. */
 int finish_text(int is_report)
 {
-    if (fflush(stdout) == 0 && !ferror(stdout))
+    int failed = ferror(stdout);
+    errno = failed ? EIO : 0;
+    if (fclose(stdout) == 0 && !failed)
         return 0;
     if (is_report) {
         warn("standard output", "it cannot be written; what was asked for is done all the same");
