@@ -1,5 +1,5 @@
-"""The command-line program end to end: every command, and every refusal that can be reached through it.
-Refusal 2 cannot: nobody knows seeds whose draws are short. Prints a line for each test, and then the count."""
+"""The command-line program end to end: every command, and every refusal that can be reached through it. Refusal 2 is
+planted, by test_cli_safe: nobody knows seeds whose draws are short. Prints a line for each test, and then the count."""
 
 import os
 import re
@@ -66,6 +66,7 @@ class Sign(Case):
         self.assertEqual((len(shortest), len(longest)), (42, 72))
         for line in (shortest, longest):
             self.done("verify", self.key(), self.package(line))
+            self.assertTrue(self.done("show", "package").startswith(b"A package. "))
 
     def test_wrong_sizes_are_1(self):
         self.key()
@@ -107,11 +108,19 @@ class Sign(Case):
                 said = self.refused(number, "sign", "private", self.put("line", bad), "out")
                 self.assertIn(words, said)
 
-    def test_file_of_many_lines(self):
+    def test_causes_are_said_of_any_length(self):
+        """Also of nothing, and of more than the program reads; and only where it is the line that is wrong."""
         self.package()
-        for count in (2, 18, 19, 500):
-            said = self.refused(1, "sign", "private", self.put("line", LINE * count), "out")
-            self.assertIn("bytes stand after the line feed; there must be one line and nothing else", said)
+        for line, words in ((b"", "the line is empty"), (LINE * 40, "bytes stand after the line feed"),
+                            (LINE[:-1] + b"0" * 3000, "no line feed stands in its first 72 bytes"),
+                            (b"x" * 3000, "this does not look like a profile line")):
+            said = self.refused(1, "sign", "private", self.put("line", line), "out").splitlines()
+            self.assertIn(f"LINE (line) has {len(line)} bytes", said[1])
+            self.assertTrue(any(words in one for one in said[2:-1]), said)
+        said = self.refused(1, "sign", "private", "-", "out", stdin=LINE * 40)
+        self.assertIn("LINE (standard input) has at least 1024 bytes; it must have 42 to 72\n", said)
+        self.put("line", LINE)
+        self.assertEqual(len(self.refused(1, "sign", "line", "line", "out").splitlines()), 3)
 
     def test_greatest_serial_gets_a_warning(self):
         for serial, warns in ((4294967295, True), (4294967294, False)):
@@ -240,7 +249,11 @@ class Load(Case):
     def test_seventeenth_pair_is_8(self):
         pairs = [("X" + letter, of) for letter in "ABCD" for of in "ABCD"]
         for country, letter in pairs:
-            self.done(*self.load(line_of(country, letter), country, letter))
+            said = self.done(*self.load(line_of(country, letter), country, letter)).decode()
+            self.assertTrue(said.startswith(f"Accepted: country {country}, class {letter}, serial 12\nNothing "), said)
+        shown = self.done("show", "store").decode()
+        self.assertTrue(shown.startswith("A store with 16 of 16 profiles.\n"), shown)
+        self.assertEqual(sorted(re.findall("^country (..), class (.), serial 12$", shown, re.M)), pairs)
         self.refused(8, *self.load(line_of("XE"), "XE", "B"))
         self.done(*self.load(line_of(serial=13), "XA", "B"))
         self.assertEqual(self.done("lookup", "store", "XD", "D"), line_of("XD", "D"))
@@ -255,7 +268,10 @@ class Load(Case):
             self.refused(10, *self.load(LINE, *device))
 
     def test_10_comes_before_1(self):
-        self.refused(10, "load", self.put("store", b""), self.put("key", b""), self.put("package", b""), "XA", "E")
+        for name in ("store", "key", "package"):
+            self.put(name, b"")
+        said = self.refused(10, "load", "store", "key", "package", "XA", "E")
+        self.assertEqual(len(said.splitlines()), 2, said)
 
     def test_wrong_sizes_are_1(self):
         words = self.load(LINE, "XA", "B")
@@ -264,7 +280,9 @@ class Load(Case):
             for size in (0, least - 1, most + 1, 1023, 1025, 200_000):
                 bad = self.put("bad", (self.get(words[at]) + bytes(200_000))[:size])
                 said = self.refused(1, *words[:at], bad, *words[at + 1:])
-                self.assertIn(f"{role} (bad) has ", said)
+                self.assertEqual(re.findall("(?m)^  ([A-Z]+) .* has ", said), [role])
+        for name in ("private", "line", "key", "package"):
+            self.assertIn(f"STORE ({name}) has ", self.refused(1, "load", name, *words[2:]))
 
     def test_damage_is_3_or_4(self):
         words = self.load(LINE, "XA", "B")
@@ -297,7 +315,7 @@ class Damage(Case):
         before = self.look()
         ran = self.run_in(*words)
         self.assertEqual(ran.returncode, DAMAGED_STORE, (words, ran.stderr))
-        self.assertIn(b" is damaged: ", ran.stderr)
+        self.assertEqual(ran.stderr.count(b" is damaged: "), 1, ran.stderr)
         self.assertIn(b"What to do: take a copy", ran.stderr)
         self.assertEqual(self.look(), before)
         return ran
@@ -349,6 +367,16 @@ class Damage(Case):
             self.assertIn(b"slot 2 holds what no load leaves there", self.damaged(*load).stderr)
             self.assertIn(b"slot 2: damaged, breaks a rule\n", self.damaged(*show).stdout)
 
+    def test_every_slot_is_looked_at(self):
+        image = self.get(self.store(LINE))[:IMAGE]
+        broken = (image[:64] if image[0] else image[-64:]).replace(b"\x32\0\0\0", b"\x33\0\0\0")
+        load, _, show = self.readers("bad")
+        for slot in range(16):
+            self.put("bad", sealed(bytes(64 * slot) + broken + bytes(64 * (15 - slot))))
+            self.assertIn(f"slot {slot + 1} holds what no load leaves there".encode(), self.damaged(*load).stderr)
+            self.assertIn(f"\nslot {slot + 1}: damaged, breaks a rule\n".encode(), self.damaged(*show).stdout)
+        self.put("bad", self.get("bad")[:IMAGE] + bytes(32))
+        self.assertIn(b"\nslot 16: damaged, breaks a rule\n", self.damaged(*show).stdout)
 
     def test_images_that_no_load_made_are_damaged(self):
         """A load would put a checksum over them: a slot that is not used but for its first byte, a used byte of 2, a
@@ -420,6 +448,9 @@ class Show(Case):
         self.assertRegex(shown, r"\nkey fingerprint:( [0-9a-f]{4}){8}\n$")
         for key in (b"\xff" * 77, flip(self.get("key"), 76, 0x80)):
             self.assertIn("a field is out of range", self.refused(3, "show", self.put("bad", key)))
+        for value in range(8):
+            shown = self.done("show", self.put("key", bytes([value]) * 77)).decode()
+            self.assertEqual(shown, "A public key.\n" + fingerprint(self.get("key")))
 
     def test_store(self):
         shown = self.done("show", self.store(LINE, LINE_C)).decode()
@@ -453,6 +484,11 @@ class Show(Case):
             self.assertIn(b"refused with 5: ", ran.stderr)
             self.assertIn(b"field 6, ", ran.stderr)
             self.assertNotIn(b"55", ran.stdout)
+
+    def test_what_has_the_size_of_a_line_is_taken_for_one(self):
+        for size in (42, 72):
+            ran = self.run_in("show", self.put("bad", b"x" * size))
+            self.assertEqual((ran.returncode, ran.stdout), (5, b"A line, not signed.\n"))
 
     def test_line_of_a_wrong_length_is_told(self):
         for line in (LINE * 2, LINE[:30]):
@@ -573,8 +609,14 @@ class Usage(Case):
                       ["key", "private", "out", "--wait"], ["key", "private", "out", "--wait", "x"],
                       ["key", "private", "out", "--wait", "-1"], ["key", "private", "out", "--wait", ""],
                       ["key", "private", "out", "--wait", "86401"], ["key", "private", "out", "--wait", "9" * 30],
+                      ["key", "private", "out", "--wait", "3s"], ["key", "private", "out", "--forc", "5"],
+                      ["key", "private", "out", "-force", "5"], ["sign", "private", "line", "out", "-key", "5"],
+                      ["key", "private", "out", "--force]", "5"],
+                      ["key", "private", "out", "--wait SECONDS", "5"],
+                      ["key", "private", "out", "--wait SECONDS]", "5"],
+                      ["load", "store", "key", "package", "XA", "B", "--force"],
+                      ["verify", "key", "package", "--wait", "1"],
                       ["sign", "private", "line", "out", "--key"], ["sign", "private", "line", "out", "-x"],
-                      ["key", "private", "out", "--force]", "1"], ["key", "private", "out", "--wait SECONDS", "1"],
                       ["sign", "private", "line", "out", "--key", "key", "--key", "key"]):
             self.wrong(*words)
 
@@ -598,6 +640,12 @@ class Usage(Case):
         self.done("key", "--force", "--wait", "3", "private", "--", "--force")
         self.assertEqual(len(self.get("--force")), 77)
         self.troubled(FILE_TROUBLE, "show", "--", "--help")
+        self.assertIn("cannot read --: ", self.troubled(FILE_TROUBLE, "show", "--", "--"))
+
+    def test_seconds(self):
+        self.put("private", PRIVATE)
+        for seconds in ("0", "1", "86400"):
+            self.done("key", "private", "out", "--force", "--wait", seconds)
 
 
 def readme_line(start):

@@ -20,11 +20,12 @@ static const char **value_of(struct request *request, const char *option)
     return strcmp(option, "--key") == 0 ? &request->key : NULL;
 }
 
+/* A number that is too great for the type is read as the greatest. */
 static int read_wait(struct request *request, const char *text)
 {
     size_t digits = strspn(text, "0123456789");
-    unsigned long seconds = digits > 0 && digits < 6 ? strtoul(text, NULL, 10) : MOST_WAIT_SECONDS + 1;
-    if (text[digits] != '\0' || seconds > MOST_WAIT_SECONDS)
+    unsigned long seconds = strtoul(text, NULL, 10);
+    if (digits == 0 || text[digits] != '\0' || seconds > MOST_WAIT_SECONDS)
         return wrong_usage(request->command, "--wait takes a number of seconds up to 86400, not ",
                            text);
     request->wait = (unsigned)seconds;

@@ -57,8 +57,6 @@ void run_apart(void (*work)(void))
     if (swapcontext(&outside, &inside) != 0)
         abort();
     wipe(stack, sizeof stack);
-    wipe(&inside, sizeof inside);
-    wipe(&outside, sizeof outside);
 }
 
 /* Random bytes from the operating system, which waits until it has them. */

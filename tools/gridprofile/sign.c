@@ -93,7 +93,7 @@ static void check_own(void)
 static int refuse(const struct request *request)
 {
     const struct input *read = &inputs[LINE_FILE];
-    int is_line = answer == GRIDPROFILE_BAD_PROFILE || (read->length > 0 && !is_size_taken(read));
+    int is_line = answer == GRIDPROFILE_BAD_PROFILE || !is_size_taken(read);
     return refused(request->command, answer, inputs, input_count, is_line ? line : NULL,
                    read->length);
 }

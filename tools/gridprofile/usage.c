@@ -97,7 +97,7 @@ static const struct page *find_page(const char *name)
     return NULL;
 }
 
-/* An option is taken where the command's own usage names it, as a whole word in brackets. */
+/* An option is taken where the command's own usage names it, as one whole word in brackets. */
 int takes_option(const char *command, const char *option)
 {
     const struct page *page = find_page(command);
