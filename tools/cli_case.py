@@ -55,6 +55,13 @@ def fingerprint(key):
     return "key fingerprint: " + " ".join(digits[at:at + 4] for at in range(0, 32, 4)) + "\n"
 
 
+# What each refusal says, and what it tells to do.
+REFUSALS = {1: ("size", "gridprofile help"), 2: ("draw from the seeds is short", "make another key"),
+            3: ("out of range", "fetch both again|fetch it again"), 4: ("signature does not hold", "do not use this package"),
+            5: ("breaks a ", "correct the line|take a copy"), 6: ("another country or class", "which device"),
+            7: ("is not greater than the stored", "greater serial|nothing can"), 8: ("16 profiles are stored", "another store"),
+            9: ("nothing is stored", "load a package"), 10: ("is not two letters", "as in: XA B")}
+
 # The seeds are named so that a seed is a file which only its owner can read.
 SECRET_NAMES = ("private", "master")
 GIVEN = ("--key", "key", "--given-master-seed", "master", "--given-salt", "salt")
@@ -111,8 +118,8 @@ class Case(unittest.TestCase):
         ran = self.run_in(*words, **options)
         said = ran.stderr.decode()
         self.assertEqual(ran.returncode, number, (words, said))
-        self.assertIn(f"refused with {number}: ", said)
-        self.assertIn("What to do: ", said)
+        meaning, advice = REFUSALS[number]
+        self.assertRegex(said, rf"refused with {number}: .*{meaning}.*\n(  .*\n)*  What to do: .*({advice})")
         self.assertEqual(ran.stdout, b"")
         self.assertEqual(self.look(), before, words)
         return said

@@ -1,5 +1,6 @@
 """The command-line program and what surrounds it: files, streams, permissions, secrets, runs at the same time."""
 
+import fcntl
 import os
 import pty
 import resource
@@ -125,6 +126,9 @@ class Streams(Case):
         self.key(), self.package(), self.store()
         for stream, words in ((0, ["key", "-", "out"]), (1, ["key", "private", "-"]), (1, ["show", "package"])):
             self.troubled(FILE_TROUBLE, *words, stdin=None, preexec_fn=lambda at=stream: os.close(at))
+        said = self.troubled(FILE_TROUBLE, "load", "store", "key", "-", "XA", "B", stdin=None,
+                             preexec_fn=lambda: os.close(0))
+        self.assertEqual(said, "gridprofile: cannot read standard input: Bad file descriptor\n")
         for letter, status in (("C", 6), ("B", 0)):
             words = ["load", "store", "key", "package", "XA", letter]
             ran = self.run_in(*words, stdin=None, preexec_fn=lambda: os.closerange(0, 3))
@@ -213,6 +217,40 @@ class Outputs(Case):
         for name in ("missing/out", "key/out", ""):
             for words in self.writers(name):
                 self.troubled(FILE_TROUBLE, *words)
+
+    def test_bad_place_is_seen_before_the_inputs_are_read(self):
+        self.key()
+        os.mkdir(self.path("folder"))
+        os.symlink("nothing", self.path("dangling"))
+        os.symlink("loop", self.path("loop"))
+        for name, why in (("key/out", "Not a directory"), ("loop", "Too many levels of symbolic links"),
+                          ("dangling", "it is a link to nothing"), ("folder", "it is there and is not a plain file"),
+                          ("key", "it exists; --force replaces it"), ("x" * 300, "File name too long")):
+            said = self.troubled(FILE_TROUBLE, "key", "missing", name)
+            self.assertEqual(said, f"gridprofile: cannot write {name}: {why}\n")
+            said = self.troubled(FILE_TROUBLE, "new-key", "fresh", name)
+            self.assertEqual(said, f"gridprofile: cannot write {name}: {why}\n")
+
+    def test_names_that_are_too_long(self):
+        self.put("private", PRIVATE)
+        for count in (2047, 2048, 2500, 20_000):
+            said = self.troubled(FILE_TROUBLE, "key", "private", "./" * count + "out")
+            self.assertTrue(said.endswith("out: File name too long\n"), said[-100:])
+        self.done("key", "private", "./" * 2046 + "out")
+        self.assertEqual(len(self.get("out")), 77)
+
+    def test_folder_of_a_name_in_the_root(self):
+        """As somebody who may not write there. That folder is locked, and not the one where the program runs."""
+        program = shutil.copy(PROGRAM, self.path("program"))
+        folder = os.open(self.folder, os.O_RDONLY)
+        self.addCleanup(os.close, folder)
+        fcntl.flock(folder, fcntl.LOCK_EX)
+        for name, wait, why in (("/gridprofile-test", "2", b"Permission denied"),
+                                ("here", "0", b"another program holds the lock")):
+            ran = subprocess.run([program, "new-store", name, "--wait", wait], cwd=self.folder, capture_output=True,
+                                 check=False, **unprivileged())
+            self.assertEqual(ran.returncode, FILE_TROUBLE, ran.stderr)
+            self.assertIn(b"cannot write " + name.encode() + b": " + why, ran.stderr)
 
     def test_only_plain_files_are_replaced(self):
         os.mkdir(self.path("folder"))
@@ -304,7 +342,7 @@ class Outputs(Case):
             yield words
 
     def test_permissions_of_replaced_files(self):
-        for mode in (0o640, 0o600, 0o666, 0o664):
+        for mode in (0o640, 0o600, 0o666, 0o2664, 0o4600):
             for words in self.replaced():
                 os.chmod(self.path("out"), mode)
                 self.done(*words)
@@ -314,12 +352,15 @@ class Outputs(Case):
 
     @unittest.skipUnless(os.getuid() == 0, "only root can give files away")
     def test_owner_of_replaced_files(self):
-        for words in self.replaced():
-            os.chown(self.path("out"), NOBODY, NOBODY - 1)
-            os.chmod(self.path("out"), 0o640)
-            self.done(*words)
-            found = os.stat(self.path("out"))
-            self.assertEqual((found.st_uid, found.st_gid, stat.S_IMODE(found.st_mode)), (NOBODY, NOBODY - 1, 0o640))
+        for owner, group in ((NOBODY, NOBODY - 1), (NOBODY, 0), (0, NOBODY)):
+            for words in self.replaced():
+                os.chown(self.path("out"), owner, group)
+                os.chmod(self.path("out"), 0o640)
+                self.done(*words)
+                found = os.stat(self.path("out"))
+                self.assertEqual((found.st_uid, found.st_gid, stat.S_IMODE(found.st_mode)), (owner, group, 0o640))
+                if words[0] == "new-key":
+                    os.remove(self.path("fresh"))
 
     @unittest.skipUnless(os.getuid() == 0, "only root can run as somebody else")
     def test_owner_that_cannot_be_kept(self):

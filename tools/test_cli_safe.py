@@ -1,6 +1,7 @@
 """What the command-line program does so that nobody is hurt: seeds that it draws, arguments that are exchanged or
 reused, files that it does not replace, faults of the machine, locks, what killed runs leave, small stacks."""
 
+import errno
 import fcntl
 import itertools
 import os
@@ -20,8 +21,10 @@ EMPTY = sealed(bytes(IMAGE))
 UNFINISHED = ".gridprofile-unfinished-"
 
 # Stands between the program and what it relies on. Random bytes come from a file, five at a time and with
-# interruptions, and end where it ends. A package is made with a bit changed, or with the private seed in it. The run is
-# killed where its new file would get its name. There is no /dev/null.
+# interruptions, and end where it ends. Where a test asks for it: files are read and written in parts and with
+# interruptions too; the first draws are short; a package is made with a bit changed, or with a seed in it; a call
+# fails; and where the new file would get its name, the run gets a signal, or another file has come by this name, or
+# the file system cannot do it. Where there is no /dev/null, it cannot be opened.
 PLANTED = r"""
 #define _GNU_SOURCE
 #include <errno.h>
@@ -29,8 +32,75 @@ PLANTED = r"""
 #include <signal.h>
 #include <stdlib.h>
 #include <string.h>
+#include <sys/stat.h>
 #include <unistd.h>
 #include "gridprofile.h"
+
+static int planted(const char *name)
+{
+    return getenv(name) == NULL ? 0 : atoi(getenv(name));
+}
+
+/* How much of this length is done: at most so many bytes, and every second time none at all. */
+static size_t part(size_t length)
+{
+    static int turn;
+    size_t most = (size_t)planted("PLANTED_PARTS");
+    if (most == 0 || length == 0)
+        return length;
+    errno = EINTR;
+    return turn++ % 2 == 1 ? 0 : length < most ? length : most;
+}
+
+ssize_t __real_read(int file, void *out, size_t length);
+ssize_t __wrap_read(int file, void *out, size_t length);
+ssize_t __wrap_read(int file, void *out, size_t length)
+{
+    size_t most = part(length);
+    return most == 0 ? -1 : __real_read(file, out, most);
+}
+
+ssize_t __real_write(int file, const void *bytes, size_t length);
+ssize_t __wrap_write(int file, const void *bytes, size_t length);
+ssize_t __wrap_write(int file, const void *bytes, size_t length)
+{
+    size_t most = part(length);
+    return most == 0 ? -1 : __real_write(file, bytes, most);
+}
+
+/* Whether this call fails, which is said by its name. */
+static int fails(const char *name)
+{
+    const char *chosen = getenv("PLANTED_FAILS");
+    errno = EIO;
+    return chosen != NULL && strcmp(chosen, name) == 0;
+}
+
+int __real_close(int file);
+int __wrap_close(int file);
+int __wrap_close(int file)
+{
+    int answer = __real_close(file);
+    return fails("close") ? -1 : answer;
+}
+
+int __real_flock(int file, int how);
+int __wrap_flock(int file, int how);
+int __wrap_flock(int file, int how)
+{
+    if (part(1) == 0)
+        return -1;
+    return fails("flock") ? -1 : __real_flock(file, how);
+}
+
+int __wrap_fsync(int file);
+int __wrap_fsync(int file)
+{
+    struct stat found;
+    if (fstat(file, &found) == 0 && S_ISDIR(found.st_mode) && getenv("PLANTED_FOLDER_SIGNAL") != NULL)
+        (void)raise(planted("PLANTED_FOLDER_SIGNAL"));
+    return fails("fsync") ? -1 : 0;
+}
 
 ssize_t __wrap_getrandom(void *out, size_t length, unsigned flags);
 ssize_t __wrap_getrandom(void *out, size_t length, unsigned flags)
@@ -43,7 +113,7 @@ ssize_t __wrap_getrandom(void *out, size_t length, unsigned flags)
         return -1;
     if (file < 0)
         file = open(getenv("PLANTED_RANDOM"), O_RDONLY);
-    got = read(file, out, length < 5 ? length : 5);
+    got = __real_read(file, out, length < 5 ? length : 5);
     errno = ENOSYS;
     return got > 0 ? got : -1;
 }
@@ -52,11 +122,13 @@ int __real_renameat2(int from, const char *old, int to, const char *new, unsigne
 int __wrap_renameat2(int from, const char *old, int to, const char *new, unsigned flags);
 int __wrap_renameat2(int from, const char *old, int to, const char *new, unsigned flags)
 {
-    if (getenv("PLANTED_KILL") != NULL)
-        (void)raise(SIGKILL);
+    if (getenv("PLANTED_SIGNAL") != NULL)
+        (void)raise(planted("PLANTED_SIGNAL"));
+    if (getenv("PLANTED_COMES") != NULL)
+        (void)__real_close(open(new, O_WRONLY | O_CREAT, 0600));
     if (getenv("PLANTED_OLD_FILE_SYSTEM") == NULL)
         return __real_renameat2(from, old, to, new, flags);
-    errno = EINVAL;
+    errno = planted("PLANTED_OLD_FILE_SYSTEM");
     return -1;
 }
 
@@ -80,6 +152,15 @@ int __wrap_open(const char *path, int flags, ...)
     return -1;
 }
 
+uint8_t __real_gridprofile_make_key(const uint8_t *seed, size_t seed_length, uint8_t *key, size_t room);
+uint8_t __wrap_gridprofile_make_key(const uint8_t *seed, size_t seed_length, uint8_t *key, size_t room);
+uint8_t __wrap_gridprofile_make_key(const uint8_t *seed, size_t seed_length, uint8_t *key, size_t room)
+{
+    static int turn;
+    uint8_t answer = __real_gridprofile_make_key(seed, seed_length, key, room);
+    return turn++ < planted("PLANTED_SHORT_KEYS") ? GRIDPROFILE_SHORT_DRAW : answer;
+}
+
 #define ARGUMENTS const uint8_t *seed, size_t seed_length, const uint8_t *master, size_t master_length,               \
     const uint8_t *salt, size_t salt_length, const uint8_t *line, size_t line_length, uint8_t *package, size_t room,  \
     size_t *length
@@ -87,16 +168,20 @@ uint8_t __real_gridprofile_make_package(ARGUMENTS);
 uint8_t __wrap_gridprofile_make_package(ARGUMENTS);
 uint8_t __wrap_gridprofile_make_package(ARGUMENTS)
 {
+    static int turn;
     uint8_t answer = __real_gridprofile_make_package(seed, seed_length, master, master_length, salt, salt_length, line,
                                                      line_length, package, room, length);
     if (getenv("PLANTED_FAULT") != NULL)
-        package[atoi(getenv("PLANTED_FAULT"))] ^= 4;
+        package[planted("PLANTED_FAULT")] ^= 4;
     if (getenv("PLANTED_LEAK") != NULL)
-        memcpy(package + atoi(getenv("PLANTED_LEAK")), seed + 3, 16);
-    return answer;
+        memcpy(package + planted("PLANTED_LEAK"), seed + 3, 16);
+    if (getenv("PLANTED_MASTER_LEAK") != NULL)
+        memcpy(package + planted("PLANTED_MASTER_LEAK"), master, 16);
+    return turn++ < planted("PLANTED_SHORT_PACKAGES") ? GRIDPROFILE_SHORT_DRAW : answer;
 }
 """
-WRAPPED = "-Wl,--wrap=getrandom,--wrap=renameat2,--wrap=link,--wrap=open,--wrap=gridprofile_make_package"
+WRAPPED = ["-Wl,--wrap=" + name for name in ("close", "flock", "fsync", "getrandom", "link", "open", "read", "renameat2",
+                                             "write", "gridprofile_make_key", "gridprofile_make_package")]
 BUILT = []
 
 
@@ -113,7 +198,7 @@ class Planted(Case):
             with open(program + ".c", "w", encoding="ascii") as file:
                 file.write(PLANTED)
             gcc = ["gcc", "-std=c11", "-O2", "-Wall", "-Wextra", "-Werror", "-I", os.path.join(ROOT, "include"), *names,
-                   program + ".c", ARCHIVE, WRAPPED, "-Wl,-z,now", "-o", program]
+                   program + ".c", ARCHIVE, *WRAPPED, "-Wl,-z,now", "-o", program]
             subprocess.run(gcc, check=True)
             BUILT.append(program)
         self.program = BUILT[0]
@@ -206,6 +291,22 @@ class Drawn(Planted):
             self.put("random", data)
             self.assertIn(told + " share bytes", self.troubled(WRONG_USAGE, "sign", "private", "line", "out"))
 
+    def test_short_draws_are_drawn_again(self):
+        """Three in a row. Nobody has seen one, so that they are planted."""
+        self.package()
+        drawn = self.get("random")
+        self.done("new-key", "fresh", "fresh.key", planted={"SHORT_KEYS": 3})
+        self.assertEqual(self.get("fresh"), drawn[3 * 32:4 * 32])
+        self.done("sign", "private", "line", "out", planted={"SHORT_PACKAGES": 3})
+        self.assertEqual(self.get("out")[:32], drawn[3 * 48 + 16:4 * 48])
+
+    def test_short_draws_without_end_are_2(self):
+        self.package()
+        self.refused(2, "new-key", "fresh", "fresh.key", planted={"SHORT_KEYS": 4})
+        self.refused(2, "sign", "private", "line", "out", planted={"SHORT_PACKAGES": 4})
+        self.refused(2, "key", "private", "out", planted={"SHORT_KEYS": 1})
+        self.refused(2, "sign", "private", "line", "out", *GIVEN, planted={"SHORT_PACKAGES": 1})
+
     def test_two_signatures_of_a_line_differ(self):
         self.package()
         made = []
@@ -230,15 +331,16 @@ class Faults(Planted):
     def test_package_with_a_seed_in_it_is_not_written(self):
         self.package()
         for at in (0, 16, 32, 5000, SIGNATURE - 16):
-            said = self.troubled(WRONG_USAGE, "sign", "private", "line", "out", planted={"LEAK": at})
-            self.assertIn("the bytes of a seed would stand in the package", said)
+            for leak in ("LEAK", "MASTER_LEAK"):
+                said = self.troubled(WRONG_USAGE, "sign", "private", "line", "out", planted={leak: at})
+                self.assertIn("the bytes of a seed would stand in the package", said)
 
     def test_what_a_killed_run_left_is_removed_by_the_next(self):
         self.package()
         for words in (["sign", "private", "line", "out"], ["key", "private", "out"], ["new-key", "fresh", "out"],
                       ["new-store", "out"]):
             before = self.names()
-            ran = self.run_in(*words, planted={"KILL": 1})
+            ran = self.run_in(*words, planted={"SIGNAL": int(signal.SIGKILL)})
             self.assertEqual(ran.returncode, -signal.SIGKILL)
             left = set(self.names()) - set(before)
             both = words[0] == "new-key"
@@ -246,18 +348,32 @@ class Faults(Planted):
             modes = sorted(stat.S_IMODE(os.stat(self.path(name)).st_mode) for name in left)
             self.assertEqual(modes, [0o600, 0o644] if both else [0o644])
             self.done(*words)
-            self.assertEqual([name for name in self.names() if name.startswith(UNFINISHED)], [])
+            self.check_nothing_is_left()
+            os.remove(self.path("out"))
+
+    def check_nothing_is_left(self):
+        self.assertEqual([name for name in self.names() if name.startswith(UNFINISHED)], [])
+
+    def test_interruption_waits_until_the_file_has_its_name(self):
+        """And then ends the run."""
+        self.package()
+        for number in (signal.SIGTERM, signal.SIGINT):
+            ran = self.run_in("sign", "private", "line", "out", planted={"SIGNAL": int(number)})
+            self.assertEqual((ran.returncode, ran.stdout), (-number, b""))
+            self.check_nothing_is_left()
+            self.done("verify", "key", "out")
             os.remove(self.path("out"))
 
     def test_file_system_that_cannot_refuse_by_name(self):
         """New files get their names by another call, and where there are no links either, by an empty file."""
         self.package()
-        for planted in ({"OLD_FILE_SYSTEM": 1}, {"OLD_FILE_SYSTEM": 1, "NO_LINKS": 1}):
+        for planted in ({"OLD_FILE_SYSTEM": errno.EINVAL}, {"OLD_FILE_SYSTEM": errno.ENOSYS},
+                        {"OLD_FILE_SYSTEM": errno.EINVAL, "NO_LINKS": 1}):
             self.done("sign", "private", "line", "out", planted=planted)
             self.done("verify", "key", "out")
             self.done("new-key", "fresh", "fresh.key", planted=planted)
             self.assertEqual(stat.S_IMODE(os.stat(self.path("fresh")).st_mode), 0o600)
-            self.assertEqual([name for name in self.names() if name.startswith(UNFINISHED)], [])
+            self.check_nothing_is_left()
             for name in ("out", "fresh", "fresh.key"):
                 os.remove(self.path(name))
 
@@ -269,6 +385,49 @@ class Faults(Planted):
             self.assertEqual((ran.returncode, ran.stdout, ran.stderr), (FILE_TROUBLE, b"", b""))
             self.assertNotIn("out", self.names())
         self.done("sign", "private", "line", "out", planted={"NO_NULL": 1})
+
+    def test_file_that_comes_last_of_all_is_not_replaced(self):
+        self.package()
+        for old in ({}, {"OLD_FILE_SYSTEM": errno.EINVAL}, {"OLD_FILE_SYSTEM": errno.ENOSYS}):
+            ran = self.run_in("sign", "private", "line", "out", planted={"COMES": 1, **old})
+            self.assertEqual((ran.returncode, self.get("out")), (FILE_TROUBLE, b""))
+            self.assertIn(b"cannot write out: File exists", ran.stderr)
+            self.check_nothing_is_left()
+            os.remove(self.path("out"))
+
+    def test_reads_and_writes_in_parts_and_with_interruptions(self):
+        wanted = self.get(self.package())
+        for size in (1, 1000):
+            name, parts = f"out{size}", {"planted": {"PARTS": size}}
+            self.done("sign", "private", "line", name, *GIVEN, **parts)
+            self.assertEqual(self.get(name), wanted)
+            self.assertEqual(self.warned("sign", "private", "line", "-", *GIVEN, **parts)[0], wanted)
+            self.done("verify", "key", name, **parts)
+
+    def test_file_that_the_disk_did_not_take(self):
+        """It is known only when the file is made to last, or closed."""
+        self.package(), self.store()
+        for call in ("fsync", "close"):
+            for words in (["sign", "private", "line", "out"], ["load", "store", "key", "package", "XA", "B"],
+                          ["new-key", "fresh", "out"]):
+                said = self.troubled(FILE_TROUBLE, *words, planted={"FAILS": call})
+                self.assertIn("Input/output error", said)
+
+    def test_file_system_without_locks(self):
+        """Only a load, which changes what is there, must have the lock; and left-overs may be another run's then."""
+        self.package(), self.store(), self.put(UNFINISHED + "abc123", b"being written")
+        said = self.troubled(FILE_TROUBLE, "load", "store", "key", "package", "XA", "B", planted={"FAILS": "flock"})
+        self.assertEqual(said, "gridprofile: a store must be in a folder that can be read and locked\n"
+                               "gridprofile: cannot lock the folder of store: Input/output error\n")
+        self.done("sign", "private", "line", "out", planted={"FAILS": "flock"})
+        self.assertIn(UNFINISHED + "abc123", self.names())
+
+    def test_name_is_made_to_last_when_the_file_has_it(self):
+        self.package()
+        ran = self.run_in("sign", "private", "line", "out", planted={"FOLDER_SIGNAL": int(signal.SIGKILL)})
+        self.assertEqual(ran.returncode, -signal.SIGKILL)
+        self.check_nothing_is_left()
+        self.done("verify", "key", "out")
 
 
 class DrawnSecrets(Planted, Memory):
@@ -329,6 +488,10 @@ class Exchanged(Case):
         self.package(), self.put("own", self.get("key"))
         self.key(bytes(32), "other"), self.put("private", PRIVATE)
         self.assertIn("KEY is not", self.troubled(WRONG_USAGE, "sign", "private", "line", "out", "--key", "other"))
+        for at in (0, 31, 32, 76):
+            key = self.get("own")
+            self.put("near", key[:at] + bytes([key[at] ^ 1]) + key[at + 1:])
+            self.assertIn("KEY is not", self.troubled(WRONG_USAGE, "sign", "private", "line", "out", "--key", "near"))
         self.done("sign", "private", "line", "out", "--key", "own")
 
     def test_any_order_of_arguments_spares_seeds_keys_and_stores(self):
@@ -444,6 +607,22 @@ class Readable(Case):
                 told = f"warning: {name}: this seed is secret, but others can read or change".encode() in ran.stderr
                 self.assertEqual((told, ran.stderr != b""), (warns, warns), (mode, words))
 
+    def test_what_is_no_seed_gets_none(self):
+        self.package()
+        os.chmod(self.path("line"), 0o644)
+        for words in (["key", "line", "out"], ["sign", "line", "line", "out"],
+                      ["sign", "private", "line", "out", *GIVEN[:2], "--given-master-seed", "line", *GIVEN[4:]]):
+            self.assertNotIn("warning", self.refused(1, *words))
+
+    def test_seed_from_a_pipe_gets_none(self):
+        os.mkfifo(self.path("pipe"))
+        os.chmod(self.path("pipe"), 0o644)
+        process = subprocess.Popen([PROGRAM, "key", "pipe", "out"], cwd=self.folder, stdout=subprocess.DEVNULL,
+                                   stderr=subprocess.PIPE)
+        with open(self.path("pipe"), "wb") as pipe:
+            pipe.write(PRIVATE)
+        self.assertEqual((process.communicate(timeout=60)[1], process.returncode), (b"", 0))
+
 
 class Terminal(Case):
     NAME = b"a\x1b[2J\x07\r\n\x7f\xc2\x9b1m\x9b" + "ü€Ä😀".encode()
@@ -473,10 +652,10 @@ class Terminal(Case):
 
 
 class Locks(Case):
-    def lock(self, seconds=None):
+    def lock(self, seconds=None, how=fcntl.LOCK_EX):
         """Locks the folder as another program would, for so long."""
         folder = os.open(self.folder, os.O_RDONLY)
-        fcntl.flock(folder, fcntl.LOCK_EX)
+        fcntl.flock(folder, how)
         if seconds is None:
             self.addCleanup(os.close, folder)
         else:
@@ -576,6 +755,11 @@ class Locks(Case):
         process.communicate(self.get("package"), timeout=60)
         self.assertEqual(process.returncode, 0)
         self.assertEqual(self.done("lookup", "store", "XA", "B"), LINE)
+
+    def test_lock_is_shared_with_nobody(self):
+        self.put("private", PRIVATE)
+        self.lock(how=fcntl.LOCK_SH)
+        self.troubled(FILE_TROUBLE, "key", "private", "key", "--wait", "0")
 
     def test_readers_do_not_wait(self):
         self.store(LINE)
