@@ -88,7 +88,9 @@ int __real_flock(int file, int how);
 int __wrap_flock(int file, int how);
 int __wrap_flock(int file, int how)
 {
-    if (part(1) == 0)
+    static int turn;
+    errno = EINTR;
+    if (planted("PLANTED_PARTS") != 0 && turn++ == 0)
         return -1;
     return fails("flock") ? -1 : __real_flock(file, how);
 }
@@ -355,10 +357,11 @@ class Faults(Planted):
         self.assertEqual([name for name in self.names() if name.startswith(UNFINISHED)], [])
 
     def test_interruption_waits_until_the_file_has_its_name(self):
-        """And then ends the run."""
+        """And then ends the run, unless whoever started it chose to ignore it, as a shell does in the background."""
         self.package()
         for number in (signal.SIGTERM, signal.SIGINT):
-            ran = self.run_in("sign", "private", "line", "out", planted={"SIGNAL": int(number)})
+            ran = self.run_in("sign", "private", "line", "out", planted={"SIGNAL": int(number)},
+                              preexec_fn=lambda which=number: signal.signal(which, signal.SIG_DFL))
             self.assertEqual((ran.returncode, ran.stdout), (-number, b""))
             self.check_nothing_is_left()
             self.done("verify", "key", "out")
@@ -403,6 +406,7 @@ class Faults(Planted):
             self.assertEqual(self.get(name), wanted)
             self.assertEqual(self.warned("sign", "private", "line", "-", *GIVEN, **parts)[0], wanted)
             self.done("verify", "key", name, **parts)
+            self.done("load", self.store(name=f"store{size}"), "key", name, "XA", "B", **parts)
 
     def test_file_that_the_disk_did_not_take(self):
         """It is known only when the file is made to last, or closed."""
@@ -769,7 +773,8 @@ class Locks(Case):
 
     def test_only_left_over_files_are_removed(self):
         self.put("private", PRIVATE)
-        other = ["unfinished-abc123", ".gridprofile-backup", UNFINISHED + "abc12", UNFINISHED + "abc1234", "x" + UNFINISHED]
+        other = ["unfinished-abc123", ".gridprofile-backup", ".gridprofile-backup-of-tuesday",
+                 UNFINISHED[:-1] + "_abc123", UNFINISHED + "abc12", UNFINISHED + "abc1234", "x" + UNFINISHED]
         for name in other:
             self.put(name, b"mine")
         os.mkdir(self.path(UNFINISHED + "folder"))
