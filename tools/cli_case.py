@@ -57,9 +57,9 @@ def fingerprint(key):
 
 # What each refusal says, and what it tells to do.
 REFUSALS = {1: ("size", "gridprofile help"), 2: ("draw from the seeds is short", "make another key"),
-            3: ("out of range", "fetch both again|fetch it again"), 4: ("signature does not hold", "do not use this package"),
+            3: ("out of range", "fetch (both|it) again"), 4: ("signature does not hold", "do not use this package"),
             5: ("breaks a ", "correct the line|take a copy"), 6: ("another country or class", "which device"),
-            7: ("is not greater than the stored", "greater serial|nothing can"), 8: ("16 profiles are stored", "another store"),
+            7: ("is not greater than", "greater serial|nothing can"), 8: ("16 profiles are stored", "another store"),
             9: ("nothing is stored", "load a package"), 10: ("is not two letters", "as in: XA B")}
 
 # The seeds are named so that a seed is a file which only its owner can read.

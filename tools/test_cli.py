@@ -92,10 +92,11 @@ class Sign(Case):
             self.refused(5, "sign", "private", self.put("line", line.encode()), "out")
 
     def test_causes_are_said_in_words(self):
-        """What people meet: how a line is saved, and how it is typed. Also where it makes the line too long or short."""
+        """What people meet: how a line is saved, and how it is typed. Also where the line is then too long or short."""
         shortest, longest = (b"GP1,XA,A,1,100,50,1001,20,1,20,1,20,-1,20\n",
                              b"GP1,XA,D,4294967295,1000,50,1500,60000,999,60000,5000,60000,-5000,60000\n")
-        causes = ((lambda line: line[:-1] + b"\r\n", "ends in CR LF"), (lambda line: line[:-1], "line feed at the end is"),
+        causes = ((lambda line: line[:-1] + b"\r\n", "ends in CR LF"),
+                  (lambda line: line[:-1], "line feed at the end is"),
                   (lambda line: b"\xef\xbb\xbf" + line, "byte order mark (EF BB BF)"),
                   (lambda line: line.replace(b"XA", b"xa"), 'field 2, country, is "xa", in lower case; it must be'),
                   (lambda line: line.replace(b",50,", b", 50,"), "field 6, hertz, is \" 50\", with a space or a tab"),
@@ -604,7 +605,8 @@ class Usage(Case):
 
     def test_wrong_options(self):
         self.package()
-        for words in (["show", "--force", "key"], ["key", "private", "out", "--forc"], ["key", "private", "out", "-key"],
+        for words in (["show", "--force", "key"], ["key", "private", "out", "--forc"],
+                      ["key", "private", "out", "-key"],
                       ["key", "private", "out", "--key", "key"], ["lookup", "store", "XA", "B", "--wait", "1"],
                       ["key", "private", "out", "--wait"], ["key", "private", "out", "--wait", "x"],
                       ["key", "private", "out", "--wait", "-1"], ["key", "private", "out", "--wait", ""],
@@ -698,7 +700,8 @@ class Formats(Case):
         wanted = {"public seed": key[:32], "packed syndrome": key[32:], "digest of the key": shake(key, 32),
                   "c": package[32:64], "h": package[64:96], "seed of round 1": package[96:112],
                   "c0(1)": package[112:144], "last bytes": package[19120:SIGNATURE],
-                  "digest of the signature": shake(package[:SIGNATURE], 32), "digest of the package": shake(package, 32)}
+                  "digest of the signature": shake(package[:SIGNATURE], 32),
+                  "digest of the package": shake(package, 32)}
         self.assertEqual([name for name, data in wanted.items() if data.hex().upper() not in hexadecimal], [])
         self.assertIn("\n    " + fingerprint(key).split(": ")[1], text)
 

@@ -373,7 +373,8 @@ class Outputs(Case):
         ran = subprocess.run([program, "load", "store", "key", "package", "XA", "B"], cwd=self.folder,
                              capture_output=True, check=False, **unprivileged())
         self.assertEqual((ran.returncode, ran.stdout), (FILE_TROUBLE, b""))
-        self.assertIn(b"cannot write store: its owner cannot be kept, so that only its owner can write it: Oper", ran.stderr)
+        self.assertIn(b"cannot write store: its owner cannot be kept, so that only its owner can write it: ",
+                      ran.stderr)
         self.assertEqual(self.look(), before)
 
 
@@ -533,7 +534,8 @@ class Secrets(Memory):
         for words in (["key", "private", "-"], ["key", seeds, "-"], ["key", "private", "missing/out"],
                       SIGN, ["sign", "private", "private", "-"], ["sign", "private", "missing", "-"],
                       ["sign", seeds, "line", "-"], ["sign", "private", "line", "-", *given, "private"],
-                      ["sign", "private", "line", "-", *given, seeds], ["sign", "private", "line", "-", *given, "master"],
+                      ["sign", "private", "line", "-", *given, seeds],
+                      ["sign", "private", "line", "-", *given, "master"],
                       ["verify", "private", "package"], ["lookup", "private", "XA", "B"], ["show", seeds],
                       ["show", "private"], ["preview", "private"]):
             ran = self.run_in(*words)

@@ -13,8 +13,8 @@ import subprocess
 import threading
 import time
 
-from cli_case import (ARCHIVE, FILE_TROUBLE, GIVEN, IMAGE, LINE, LINE_C, MASTER, NO_RANDOM_BYTES, PRIVATE, PROGRAM, ROOT, SALT,
-                      SELF_CHECK_FAILED, SIGNATURE, STORE, WRONG_USAGE, Case, fingerprint, line_of, sealed, shake)
+from cli_case import (ARCHIVE, FILE_TROUBLE, GIVEN, IMAGE, LINE, LINE_C, MASTER, NO_RANDOM_BYTES, PRIVATE, PROGRAM, ROOT,
+                      SALT, SELF_CHECK_FAILED, SIGNATURE, STORE, WRONG_USAGE, Case, fingerprint, line_of, sealed, shake)
 from test_cli_files import HIDDEN, NOBODY, READS_INPUT, WRITES_OUTPUT, Memory, call_of, search_traces, wait_for
 
 EMPTY = sealed(bytes(IMAGE))
@@ -182,8 +182,8 @@ uint8_t __wrap_gridprofile_make_package(ARGUMENTS)
     return turn++ < planted("PLANTED_SHORT_PACKAGES") ? GRIDPROFILE_SHORT_DRAW : answer;
 }
 """
-WRAPPED = ["-Wl,--wrap=" + name for name in ("close", "flock", "fsync", "getrandom", "link", "open", "read", "renameat2",
-                                             "write", "gridprofile_make_key", "gridprofile_make_package")]
+WRAPPED = ["-Wl,--wrap=" + name for name in ("close", "flock", "fsync", "getrandom", "link", "open", "read",
+                                             "renameat2", "write", "gridprofile_make_key", "gridprofile_make_package")]
 BUILT = []
 
 
@@ -242,12 +242,13 @@ class NewKey(Case):
     def test_wrong_places(self):
         self.assertIn("to a file alone", self.troubled(WRONG_USAGE, "new-key", "-", "key"))
         os.symlink(".", self.path("here"))
-        for name in ("a", "./a", "here/a", os.path.join(self.folder, "a"), "../" + os.path.basename(self.folder) + "/a"):
+        name = os.path.basename(self.folder)
+        for name in ("a", "./a", "here/a", os.path.join(self.folder, "a"), f"../{name}/a"):
             for options in ([], ["--force"]):
                 self.assertIn("the same file", self.troubled(WRONG_USAGE, "new-key", "a", name, *options))
 
     def test_no_seed_is_seen_before_its_key(self):
-        """While the key's folder is locked by somebody else there is no seed, and after an interruption there is none."""
+        """There is none while the key's folder is locked by somebody else, nor after an interruption."""
         os.mkdir(self.path("other"))
         folder = os.open(self.path("other"), os.O_RDONLY)
         self.addCleanup(os.close, folder)
@@ -281,7 +282,8 @@ class Drawn(Planted):
 
     def test_system_that_gives_too_few_bytes(self):
         self.package()
-        for size, words in ((0, ["new-key", "a", "b"]), (31, ["new-key", "a", "b"]), (15, ["sign", "private", "line", "a"]),
+        for size, words in ((0, ["new-key", "a", "b"]), (31, ["new-key", "a", "b"]),
+                            (15, ["sign", "private", "line", "a"]),
                             (47, ["sign", "private", "line", "a"])):
             self.put("random", PRIVATE[:1] * size)
             self.assertIn("no random bytes", self.troubled(NO_RANDOM_BYTES, *words))
@@ -599,7 +601,8 @@ class Existing(Case):
 class Readable(Case):
     def test_seed_that_others_can_read_gets_a_warning(self):
         self.package()
-        for mode, warns in ((0o644, True), (0o640, True), (0o604, True), (0o620, True), (0o602, True), (0o600, False), (0o400, False)):
+        for mode in (0o644, 0o640, 0o604, 0o620, 0o602, 0o600, 0o400):
+            warns = mode & 0o066 != 0
             for name, words in (("private", ["key", "private", "out"]), ("private", ["sign", "private", "line", "out"]),
                                 ("master", ["sign", "private", "line", "out", *GIVEN])):
                 for file in ("private", "master"):
