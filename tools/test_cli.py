@@ -120,8 +120,9 @@ class Sign(Case):
             self.assertTrue(any(words in one for one in said[2:-1]), said)
         said = self.refused(1, "sign", "private", "-", "out", stdin=LINE * 40)
         self.assertIn("LINE (standard input) has at least 1024 bytes; it must have 42 to 72\n", said)
-        self.put("line", LINE)
-        self.assertEqual(len(self.refused(1, "sign", "line", "line", "out").splitlines()), 3)
+        for line in (LINE, test_cli_lines.SHORTEST, test_cli_lines.LONGEST):
+            said = self.refused(1, "sign", "key", self.put("line", line), "out").splitlines()
+            self.assertEqual([one.split(" (")[0] for one in said[1:-1]], ["  PRIVATE"], said)
 
     def test_greatest_serial_gets_a_warning(self):
         for serial, warns in ((4294967295, True), (4294967294, False)):

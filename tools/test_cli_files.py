@@ -10,8 +10,8 @@ import subprocess
 import time
 import unittest
 
-from cli_case import (FILE_TROUBLE, GIVEN, IMAGE, LINE, MASTER, PRIVATE, PROGRAM, SALT, WRONG_USAGE, Case, line_of,
-                      sealed, shake)
+from cli_case import (DAMAGED_STORE, FILE_TROUBLE, GIVEN, IMAGE, LINE, MASTER, PRIVATE, PROGRAM, SALT, WRONG_USAGE,
+                      Case, line_of, sealed, shake)
 
 NOBODY = 65534
 
@@ -101,6 +101,12 @@ class Streams(Case):
         for name in ("/dev/stdout", "/proc/self/fd/1"):
             said = self.troubled(FILE_TROUBLE, "sign", "private", "line", name)
             self.assertIn("it is not a plain file; `-` is standard output", said)
+
+    def test_refusal_whose_output_cannot_be_written(self):
+        """The refusal says more."""
+        self.put("bad", bytes(1056))
+        with open("/dev/full", "wb") as full:
+            self.assertEqual(self.run_in("show", "bad", stdout=full).returncode, DAMAGED_STORE)
 
     def test_report_that_cannot_be_written(self):
         """The file is what was asked for, and it is written."""
