@@ -310,6 +310,18 @@ class Outputs(Case):
             self.assertEqual((os.listdir(self.path("shut")), os.listdir(self.path("open"))), ([], ["locked"]))
             self.assertEqual(self.get("open/locked"), EMPTY)
 
+    def test_key_that_may_not_be_written(self):
+        """Nothing is left of its seed then."""
+        program = shutil.copy(PROGRAM, self.path("program"))
+        for name, mode in (("shut", 0o555), ("open", 0o777)):
+            os.mkdir(self.path(name))
+            os.chmod(self.path(name), mode)
+        ran = subprocess.run([program, "new-key", "open/fresh", "shut/key"], cwd=self.folder, capture_output=True,
+                             check=False, **unprivileged())
+        self.assertEqual((ran.returncode, ran.stdout), (FILE_TROUBLE, b""))
+        self.assertIn(b"cannot write shut/key: Permission denied", ran.stderr)
+        self.assertEqual((os.listdir(self.path("open")), os.listdir(self.path("shut"))), ([], []))
+
     def test_folder_that_cannot_be_read(self):
         """It cannot be locked then: only a load, which changes what is there, must have the lock."""
         program = shutil.copy(PROGRAM, self.path("program"))

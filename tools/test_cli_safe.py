@@ -124,9 +124,10 @@ int __real_renameat2(int from, const char *old, int to, const char *new, unsigne
 int __wrap_renameat2(int from, const char *old, int to, const char *new, unsigned flags);
 int __wrap_renameat2(int from, const char *old, int to, const char *new, unsigned flags)
 {
+    static int turn;
     if (getenv("PLANTED_SIGNAL") != NULL)
         (void)raise(planted("PLANTED_SIGNAL"));
-    if (getenv("PLANTED_COMES") != NULL)
+    if (++turn == planted("PLANTED_COMES"))
         (void)__real_close(open(new, O_WRONLY | O_CREAT, 0600));
     if (getenv("PLANTED_OLD_FILE_SYSTEM") == NULL)
         return __real_renameat2(from, old, to, new, flags);
@@ -149,7 +150,7 @@ int __wrap_open(const char *path, int flags, ...);
 int __wrap_open(const char *path, int flags, ...)
 {
     if (getenv("PLANTED_NO_NULL") == NULL || strcmp(path, "/dev/null") != 0)
-        return __real_open(path, flags);
+        return __real_open(path, flags, 0600);
     errno = ENOENT;
     return -1;
 }
@@ -400,6 +401,16 @@ class Faults(Planted):
             self.check_nothing_is_left()
             os.remove(self.path("out"))
 
+    def test_both_files_of_a_new_key_or_none(self):
+        """A file comes by the name of the seed, or then by that of the key, last of all."""
+        for turn, came in ((1, "fresh"), (2, "fresh.key")):
+            for old in ({}, {"OLD_FILE_SYSTEM": errno.EINVAL}, {"OLD_FILE_SYSTEM": errno.EINVAL, "NO_LINKS": 1}):
+                before = self.names()
+                ran = self.run_in("new-key", "fresh", "fresh.key", planted={"COMES": turn, **old})
+                self.assertEqual((ran.returncode, self.get(came)), (FILE_TROUBLE, b""))
+                self.assertEqual(self.names(), sorted([*before, came]))
+                os.remove(self.path(came))
+
     def test_reads_and_writes_in_parts_and_with_interruptions(self):
         wanted = self.get(self.package())
         for size in (1, 1000):
@@ -581,6 +592,7 @@ class Existing(Case):
         for became, status in ((PRIVATE, FILE_TROUBLE), (self.get("key"), FILE_TROUBLE), (EMPTY, FILE_TROUBLE),
                                (self.get("package"), 0), (None, 0)):
             self.put("out", self.get("package"))
+            os.chmod(self.path("out"), 0o600)
             process = subprocess.Popen([PROGRAM, "sign", "private", "pipe", "out", "--force"], cwd=self.folder,
                                        stdout=subprocess.PIPE, stderr=subprocess.PIPE)
             with open(self.path("pipe"), "wb") as pipe:
@@ -592,6 +604,7 @@ class Existing(Case):
             self.assertEqual(process.returncode, status)
             if status == 0:
                 self.done("verify", "key", "out")
+                self.assertEqual(stat.S_IMODE(os.stat(self.path("out")).st_mode), 0o644)
             else:
                 self.assertEqual(self.get("out"), became)
                 self.assertIn(b"cannot write out: it exists and has the size of ", said)
@@ -745,6 +758,15 @@ class Locks(Case):
         self.assertEqual((process.returncode, self.get("folder/store"), self.get("old/store")),
                          (FILE_TROUBLE, EMPTY, EMPTY))
         self.assertIn(b"folder/store: its folder is another one now; try again", said)
+
+    def test_seed_that_comes_by_the_name_of_a_new_key_is_not_replaced(self):
+        self.put("out", bytes(77))
+        run = self.waits("new-key", "fresh", "out", "--force")
+        next(run)
+        self.put("new", HIDDEN[0]), os.rename(self.path("new"), self.path("out"))
+        status, said = next(run)
+        self.assertEqual((status, self.get("out")), (FILE_TROUBLE, HIDDEN[0]))
+        self.assertNotIn("fresh", self.names())
 
     def test_permissions_that_change_meanwhile_count(self):
         run = self.waits("load", "store", "key", "package", "XA", "B")
