@@ -135,6 +135,13 @@ int __wrap_renameat2(int from, const char *old, int to, const char *new, unsigne
     return -1;
 }
 
+int __real_rename(const char *old, const char *new);
+int __wrap_rename(const char *old, const char *new);
+int __wrap_rename(const char *old, const char *new)
+{
+    return fails("rename") ? -1 : __real_rename(old, new);
+}
+
 int __real_link(const char *old, const char *new);
 int __wrap_link(const char *old, const char *new);
 int __wrap_link(const char *old, const char *new)
@@ -183,7 +190,7 @@ uint8_t __wrap_gridprofile_make_package(ARGUMENTS)
     return turn++ < planted("PLANTED_SHORT_PACKAGES") ? GRIDPROFILE_SHORT_DRAW : answer;
 }
 """
-WRAPPED = ["-Wl,--wrap=" + name for name in ("close", "flock", "fsync", "getrandom", "link", "open", "read",
+WRAPPED = ["-Wl,--wrap=" + name for name in ("close", "flock", "fsync", "getrandom", "link", "open", "read", "rename",
                                              "renameat2", "write", "gridprofile_make_key", "gridprofile_make_package")]
 BUILT = []
 
@@ -257,7 +264,8 @@ class NewKey(Case):
         self.troubled(FILE_TROUBLE, "new-key", "private", "other/key", "--wait", "0")
         for number in (signal.SIGTERM, signal.SIGINT, signal.SIGHUP):
             process = subprocess.Popen([PROGRAM, "new-key", "private", "other/key"], cwd=self.folder,
-                                       stderr=subprocess.PIPE)
+                                       stderr=subprocess.PIPE,
+                                       preexec_fn=lambda which=number: signal.signal(which, signal.SIG_DFL))
             self.assertIn(b"waiting", process.stderr.readline())
             self.assertEqual((self.names(), os.listdir(self.path("other"))), (["other"], []))
             process.send_signal(number)
@@ -363,12 +371,16 @@ class Faults(Planted):
         """And then ends the run, unless whoever started it chose to ignore it, as a shell does in the background."""
         self.package()
         for number in (signal.SIGTERM, signal.SIGINT):
-            ran = self.run_in("sign", "private", "line", "out", planted={"SIGNAL": int(number)},
-                              preexec_fn=lambda which=number: signal.signal(which, signal.SIG_DFL))
+            heed = {"preexec_fn": lambda which=number: signal.signal(which, signal.SIG_DFL)}
+            ran = self.run_in("sign", "private", "line", "out", planted={"SIGNAL": int(number)}, **heed)
             self.assertEqual((ran.returncode, ran.stdout), (-number, b""))
             self.check_nothing_is_left()
             self.done("verify", "key", "out")
             os.remove(self.path("out"))
+            ran = self.run_in("new-key", f"fresh{number}", f"key{number}", planted={"SIGNAL": int(number)}, **heed)
+            self.assertEqual((ran.returncode, ran.stdout), (-number, b""))
+            self.assertEqual(self.warned("key", f"fresh{number}", "-")[0], self.get(f"key{number}"))
+            self.check_nothing_is_left()
 
     def test_file_system_that_cannot_refuse_by_name(self):
         """New files get their names by another call, and where there are no links either, by an empty file."""
@@ -400,6 +412,12 @@ class Faults(Planted):
             self.assertIn(b"cannot write out: File exists", ran.stderr)
             self.check_nothing_is_left()
             os.remove(self.path("out"))
+
+    def test_name_that_was_taken_for_nothing(self):
+        """By an empty file, on a file system that has no other way, where the file then does not get it."""
+        self.package()
+        planted = {"OLD_FILE_SYSTEM": errno.EINVAL, "NO_LINKS": 1, "FAILS": "rename"}
+        self.troubled(FILE_TROUBLE, "sign", "private", "line", "out", planted=planted)
 
     def test_both_files_of_a_new_key_or_none(self):
         """A file comes by the name of the seed, or then by that of the key, last of all."""

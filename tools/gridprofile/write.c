@@ -98,7 +98,7 @@ static int give_name(const struct output *output)
     if (errno != EINVAL && errno != ENOSYS)
         return -1;
     if (link(output->begun, output->target) != 0)
-        return errno == EEXIST ? -1 : take_name(output);
+        return take_name(output);
     (void)unlink(output->begun);
     return 0;
 }
