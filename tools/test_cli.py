@@ -492,6 +492,13 @@ class Show(Case):
             ran = self.run_in("show", self.put("bad", b"x" * size))
             self.assertEqual((ran.returncode, ran.stdout), (5, b"A line, not signed.\n"))
 
+    def test_what_is_wrong_comes_after_what_is_shown(self):
+        """Where both streams go to one file."""
+        for data, first in ((BAD_LINE, b"A line, not signed.\n"), (bytes(1024)[:-1] + b"x", b"A store with 0 of 16")):
+            ran = self.run_in("show", self.put("bad", data), stderr=subprocess.STDOUT)
+            told = [ran.stdout.find(words) for words in (first, b"What to do: ")]
+            self.assertTrue(0 <= told[0] < told[1], ran.stdout)
+
     def test_line_of_a_wrong_length_is_told(self):
         for line in (LINE * 2, LINE[:30]):
             ran = self.run_in("show", self.put("bad", line))
