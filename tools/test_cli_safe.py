@@ -13,8 +13,9 @@ import subprocess
 import threading
 import time
 
-from cli_case import (ARCHIVE, FILE_TROUBLE, GIVEN, IMAGE, LINE, LINE_C, MASTER, NO_RANDOM_BYTES, PRIVATE, PROGRAM, ROOT,
-                      SALT, SELF_CHECK_FAILED, SIGNATURE, STORE, WRONG_USAGE, Case, fingerprint, line_of, sealed, shake)
+from cli_case import (ARCHIVE, FILE_TROUBLE, GIVEN, IMAGE, LINE, LINE_C, MASTER, NO_RANDOM_BYTES, PRIVATE, PROGRAM,
+                      ROOT, SALT, SELF_CHECK_FAILED, SIGNATURE, STORE, WRONG_USAGE, Case, fingerprint, line_of,
+                      sealed, shake)
 from test_cli_files import HIDDEN, NOBODY, READS_INPUT, WRITES_OUTPUT, Memory, call_of, search_traces, wait_for
 
 EMPTY = sealed(bytes(IMAGE))
