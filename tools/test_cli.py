@@ -108,6 +108,7 @@ class Sign(Case):
                 number = 5 if 42 <= len(bad) <= 72 else 1
                 said = self.refused(number, "sign", "private", self.put("line", bad), "out")
                 self.assertIn(words, said)
+                self.assertIn("What to do: correct the line", said)
 
     def test_causes_are_said_of_any_length(self):
         """Also of nothing, and of more than the program reads; and only where it is the line that is wrong."""

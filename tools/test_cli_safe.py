@@ -612,6 +612,8 @@ class Existing(Case):
                                (self.get("package"), 0), (None, 0)):
             self.put("out", self.get("package"))
             os.chmod(self.path("out"), 0o600)
+            if os.getuid() == 0:
+                os.chown(self.path("out"), NOBODY, NOBODY)
             process = subprocess.Popen([PROGRAM, "sign", "private", "pipe", "out", "--force"], cwd=self.folder,
                                        stdout=subprocess.PIPE, stderr=subprocess.PIPE)
             with open(self.path("pipe"), "wb") as pipe:
@@ -623,7 +625,8 @@ class Existing(Case):
             self.assertEqual(process.returncode, status)
             if status == 0:
                 self.done("verify", "key", "out")
-                self.assertEqual(stat.S_IMODE(os.stat(self.path("out")).st_mode), 0o644)
+                made = os.stat(self.path("out"))
+                self.assertEqual((stat.S_IMODE(made.st_mode), made.st_uid), (0o644, os.getuid()))
             else:
                 self.assertEqual(self.get("out"), became)
                 self.assertIn(b"cannot write out: it exists and has the size of ", said)
