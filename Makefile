@@ -4,6 +4,7 @@
 ARCHIVE = target/staticlib/libgridprofile.a
 PROGRAM = target/cli/gridprofile
 SOURCES = $(wildcard tools/gridprofile/*.c)
+HEADERS = tools/gridprofile/program.h $(wildcard include/*.h)
 SOAK = peer/target/release/soak
 MEMCHECK = valgrind -q --error-exitcode=9 --partial-loads-ok=no
 
@@ -58,6 +59,6 @@ memcheck: ## some thousands of these inputs under valgrind
 
 # -z now: a function that is looked for at its first call costs a copy of the registers on the stack, where what is
 # left in them of the seeds would stay.
-$(PROGRAM): $(SOURCES) tools/gridprofile/program.h include/gridprofile.h $(ARCHIVE)
+$(PROGRAM): $(SOURCES) $(HEADERS) $(ARCHIVE)
 	mkdir -p $(@D)
 	gcc -std=c11 -O2 -Wall -Wextra -Werror -pedantic -I include -Wl,-z,now $(SOURCES) $(ARCHIVE) -o $@

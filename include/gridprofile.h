@@ -1,10 +1,12 @@
-/* Signed grid profiles: the C interface of the proved library.
+/* Signed grid profiles: the C interface of the proved library, with the sizes and functions of
+ * category 1. Those of categories 3 and 5 stand in gridprofile_category3.h and
+ * gridprofile_category5.h, which include this file; a device is built for one category.
  *
  * A slice is a pointer and then its length in bytes. Slices given to one call must not overlap, and
  * a pointer must not be null unless its length is 0: the library's proofs assume both. Every
- * function but gridprofile_shake128 answers 0, or the number of the first refusal that applies.
- * After a refusal every lent byte is as it was. No function keeps a pointer, allocates memory or
- * has any state of its own.
+ * function but the two of SHAKE answers 0, or the number of the first refusal that applies. After a
+ * refusal every lent byte is as it was. No function keeps a pointer, allocates memory or has any
+ * state of its own.
  *
  * `Stack: N bytes.` is what a call needs below its caller's own frame: measured on x86-64 and
  * rounded up to a multiple of 64, not proved. `make bench` measures it. */
@@ -109,8 +111,12 @@ extern "C" {
 
 /* SHAKE128 (FIPS 202) of the input, as many bytes as `out` has. Input and output may have any
  * length, 0 too. It never refuses.
- * Stack: 576 bytes. */
+ * Stack: 640 bytes. */
 void gridprofile_shake128(const uint8_t *input, size_t input_len, uint8_t *out, size_t out_len);
+
+/* SHAKE256, in the same way.
+ * Stack: 640 bytes. */
+void gridprofile_shake256(const uint8_t *input, size_t input_len, uint8_t *out, size_t out_len);
 
 /* Packs any number of values, a byte each, 7 bits for each from the lowest bit of the first byte
  * upward. Refuses with 1 where packed_len is not GRIDPROFILE_PACKED_VALUES_BYTES(values_len), then
@@ -176,7 +182,7 @@ uint8_t gridprofile_sample_second_challenge(const uint8_t *block, size_t block_l
 /* Makes the public key of a private seed of GRIDPROFILE_PRIVATE_SEED_BYTES into
  * GRIDPROFILE_KEY_BYTES: the public seed, then the packed syndrome. Refuses with 1 where either
  * length is another, then with 2 where one of the key's draws is short.
- * Stack: 9984 bytes. */
+ * Stack: 10176 bytes. */
 uint8_t gridprofile_make_key(const uint8_t *private_seed, size_t private_seed_len, uint8_t *key,
                              size_t key_len);
 
@@ -209,7 +215,7 @@ uint8_t gridprofile_verify(const uint8_t *key, size_t key_len, const uint8_t *me
  * GRIDPROFILE_ROUNDS, first_challenge not 1 to 126 or second_challenge not 0 or 1; with 2 where the
  * draw of the matrix is short; with 3 where the reply has a bad field or with 2 where a draw from
  * its seed is short; last with 4 where commitment or response differs.
- * Stack: 10624 bytes. */
+ * Stack: 11328 bytes. */
 uint8_t gridprofile_verify_round(const uint8_t *key, size_t key_len, const uint8_t *salt,
                                  size_t salt_len, uint32_t round, const uint8_t *commitment_0,
                                  size_t commitment_0_len, const uint8_t *commitment_1,
@@ -252,7 +258,7 @@ uint8_t gridprofile_preview(const uint8_t *input, size_t input_len, uint8_t *out
  * touched. Seeds and salt are as for gridprofile_sign. Refuses with 1 where one of them or the
  * buffer has another length or the line has no line's length; with 5 where the line breaks a rule;
  * with 2 where a draw is short. *length is then as it was.
- * Stack: 69440 bytes. */
+ * Stack: 69824 bytes. */
 uint8_t gridprofile_make_package(const uint8_t *private_seed, size_t private_seed_len,
                                  const uint8_t *master_seed, size_t master_seed_len,
                                  const uint8_t *salt, size_t salt_len, const uint8_t *line,
@@ -278,7 +284,7 @@ uint8_t gridprofile_make_package(const uint8_t *private_seed, size_t private_see
  * gridprofile_verify does; with 5 where the line breaks a rule; with 6 where the profile is for
  * another country or class; with 7 where its serial is not greater than the stored one; with 8
  * where GRIDPROFILE_STORE_SLOTS others are stored.
- * Stack: 16576 bytes. */
+ * Stack: 16832 bytes. */
 uint8_t gridprofile_load(uint8_t *store, size_t store_len, const uint8_t *key, size_t key_len,
                          const uint8_t *package, size_t package_len, const uint8_t *country,
                          size_t country_len, uint32_t class_letter);

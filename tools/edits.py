@@ -12,21 +12,49 @@ UNFIT = re.compile(
 )
 ERROR = re.compile(r"^(?P<file>/\S*?):\d+:\d+: error(?:\[[^\]]*\])?: (?P<text>.*)$")
 UNPROVED = re.compile(r"^note: (?P<file>/\S*?):\d+:\d+: (?P<text>it is not proved that .*)$")
+VERDICT = re.compile(r"^fn (?P<name>\S+): (?P<proved>proved$)?")
+EACH = re.compile(r"^each: (\S+)$", re.M)
 
 
-def first_error(log):
-    """File and text of the first thing that the prover refused, or None. A need that Rattle could
-    not prove by itself is a note. What is indented belongs to the line before it."""
-    for line in re.sub(r"\n  +", " ", log).splitlines():
+def errors(lines):
+    """File and text of each thing that the prover refused. A need that Rattle could not prove by itself is a note."""
+    for line in lines:
         found = ERROR.match(line) or UNPROVED.match(line)
         if found:
-            return found.group("file"), found.group("text")
-    return None
+            yield found.group("file"), found.group("text")
+
+
+def lines_of(log):
+    """What is indented belongs to the line before it."""
+    return re.sub(r"\n  +", " ", log).splitlines()
 
 
 def problem(log, folder):
     """Why the edit is no good, or None."""
-    first = first_error(log)
+    return judged(next(errors(lines_of(log)), None), folder)
+
+
+def problem_of_each(log, folder, module):
+    """Why some function of the module, or the one that is named, is not refused by a fact, or None. What is wrong in a
+    proof file is said before all verdicts; what Rattle does not prove by itself, right before the function's own."""
+    lines, start, names = lines_of(log), 0, 0
+    for at, line in enumerate(lines):
+        verdict = VERDICT.match(line)
+        if verdict and f"{verdict.group('name')}::".startswith(f"{module}::"):
+            name, names = verdict.group("name"), names + 1
+            file = os.path.join(folder, "proofs", *name.split("::")[1:], "Proof.antt")
+            own = [error for error in errors(lines) if error[0] == file]
+            own += [error for error in errors(lines[start:at]) if os.path.relpath(error[0], folder).startswith("src/")]
+            if verdict.group("proved"):
+                return f"{name} is proved with it"
+            if said := judged(next(iter(own), None), folder):
+                return f"{name}: {said}"
+        start = at + 1 if verdict else start
+    return None if names else f"its log speaks of no function of {module}"
+
+
+def judged(first, folder):
+    """Why an error is no fact that fails, or None."""
     if first is None:
         return "its log shows no error"
     path, text = first
@@ -49,4 +77,7 @@ def check(root):
         if not os.path.exists(log):
             yield f"edit {crate}/{label}", "it was not tried"
             continue
-        yield f"edit {crate}/{label}", problem(open(log, errors="replace").read(), folder)
+        text = open(log, errors="replace").read()
+        yield f"edit {crate}/{label}", problem(text, folder)
+        for module in EACH.findall(open(edit).read()):
+            yield f"edit {crate}/{label}, each of {module}", problem_of_each(text, folder, module)

@@ -1,6 +1,8 @@
 """The entries check: each listed entry asks for nothing and promises the one definition that the list names, of all
 its arguments and of its answer; its C function promises the same and makes one call; list, exports and header agree."""
 
+import glob
+import os
 import re
 from itertools import zip_longest
 from typing import NamedTuple
@@ -9,7 +11,7 @@ import source
 from source import Problem
 
 LIST = "docs/entries.txt"
-HEADER = "include/gridprofile.h"
+HEADER = "include/gridprofile.h"  # those of categories 3 and 5 stand beside it
 EXPORTS = "gridprofile"  # the crate of the C interface
 TESTED = "tiny_sizes"  # exports to the tests alone
 SIZES = "parameters.Categories"  # the definitions of the categories' sizes
@@ -248,7 +250,28 @@ def imports(tree, path):
     has_own_sizes(tree, module)
 
 
+def of_one_category(tree, module):
+    """The module of a category names no other category."""
+    for words, _ in module.uses:
+        for word in words:
+            if re.fullmatch(r"(?:gridprofile_)?category\d.*", word, re.I) and not is_of(word, module.path[-1]):
+                raise Problem(f"{module.file} uses {shown(words)}, of another category")
+    has_own_sizes(tree, module)
+
+
+def is_of(word, category):
+    return re.fullmatch(rf"(?:gridprofile_)?{category}(?:_\w+)?", word, re.I)
+
+
 # ---- the function that C calls
+
+
+def is_named_by_category(function, module):
+    """A C function of category 3 has that in its name, and one of category 1, or of none, has not."""
+    named = re.match(r"gridprofile_(category\d+)_", function.path[-1])
+    category = module.path[-1] if sizes(module) else "category1"
+    if (named.group(1) if named else "category1") != category:
+        raise Problem(f"{shown(function.path)} has the name of another category")
 
 
 def one_call(function):
@@ -308,6 +331,7 @@ def c_function(tree, entry):
     if function.attributes != ("no_mangle",) or not function.extern:
         raise Problem(f"{shown(function.path)} is not `#[no_mangle] pub extern \"C\"`")
     imports(tree, function.path)
+    is_named_by_category(function, module)
     call = one_call(function)
     if entry.path not in (function.path, call.path):
         raise Problem(f"{shown(function.path)} calls {shown(call.path)}, and not the listed {shown(entry.path)}")
@@ -325,10 +349,40 @@ def read_list(root):
             yield text, Entry(tuple(found.group(1).split("::")), *found.groups()[1:]) if found else None
 
 
-def declared(root):
-    """The functions that the header declares."""
-    text = re.sub(r"/\*.*?\*/|//[^\n]*", "", source.text_of(root, HEADER), flags=re.S)
+def headers(root):
+    """The header files, the one of category 1 first."""
+    found = [os.path.relpath(path, root) for path in glob.glob(os.path.join(root, "include", "*.h"))]
+    return sorted(set(found) | {HEADER})
+
+
+def header_of(name):
+    """The header that a C function belongs to: its category's own, or the one of category 1."""
+    named = re.match(r"gridprofile_category\d+", name)
+    return f"include/{named.group(0)}.h" if named else HEADER
+
+
+def declared_in(root, header):
+    """The functions that one header declares."""
+    text = re.sub(r"/\*.*?\*/|//[^\n]*", "", source.text_of(root, header), flags=re.S)
     return re.findall(r"\b(gridprofile_\w+)\s*\(", text)
+
+
+def declared(root):
+    """The functions that the headers declare."""
+    return [name for header in headers(root) for name in declared_in(root, header)]
+
+
+def is_declared(root, name):
+    if name not in declared_in(root, header_of(name)):
+        raise Problem(f"{header_of(name)} does not have {name}")
+
+
+def belongs(name, header, listed):
+    """What a header declares is listed, and stands in no other header than its own."""
+    if name not in listed:
+        raise Problem(f"{LIST} does not have {name}")
+    if header_of(name) != header:
+        raise Problem(f"{header} declares {name}, which belongs into {header_of(name)}")
 
 
 def listed_once(entries, entry):
@@ -349,11 +403,6 @@ def exported(tree, listed, crate, name):
         raise Problem(f"the exported {name} is declared {times} times in the files of all crates")
 
 
-def is_in(name, names, where):
-    if name not in names:
-        raise Problem(f"{where} does not have {name}")
-
-
 def judged(what, check, *arguments):
     """What is looked at, and its problem or None. Whatever goes wrong is a problem of this one thing."""
     try:
@@ -365,20 +414,21 @@ def judged(what, check, *arguments):
         return what, f"it cannot be checked: {error!r}"
 
 
-def check_entry(tree, header, entries, entry):
+def check_entry(tree, entries, entry):
     name = shown(entry.path)
     yield judged(f"line of {name}", listed_once, entries, entry)
     yield judged(f"entry {name}", keeps, tree, entry.path, entry.contract)
     yield judged(f"imports of entry {name}", imports, tree, entry.path)
     if entry.c_name != "-":
         yield judged(f"C function {entry.c_name}", c_function, tree, entry)
-        yield judged(f"header {entry.c_name}", is_in, entry.c_name, header, HEADER)
+        yield judged(f"header {entry.c_name}", is_declared, tree.root, entry.c_name)
 
 
 def check(root):
     """A pair for each thing looked at: what it is, and its problem or None."""
     try:
-        lines, header, tree = list(read_list(root)), declared(root), source.Tree(root)
+        lines, tree = list(read_list(root)), source.Tree(root)
+        said = [(name, header) for header in headers(root) for name in declared_in(root, header)]
     except Problem as problem:
         yield "entries", str(problem)
         return
@@ -388,9 +438,12 @@ def check(root):
     for problem in tree.problems():
         yield "source", str(problem)
     for entry in entries:
-        yield from check_entry(tree, header, entries, entry)
+        yield from check_entry(tree, entries, entry)
+    for module in tree.modules():
+        if sizes(module):
+            yield judged(f"category of {module.file}", of_one_category, tree, module)
     listed = [entry.c_name for entry in entries]
     for crate, name in tree.exports():
         yield judged(f"export {name}", exported, tree, listed, crate, name)
-    for name in header:
-        yield judged(f"declared {name}", is_in, name, listed, LIST)
+    for name, header in said:
+        yield judged(f"declared {name}", belongs, name, header, listed)

@@ -13,8 +13,8 @@ MEASURED = re.compile(r"(\w+) (\d+)")
 
 
 def stated(root):
-    """What the header says of each function, by its name: the numbers in the paragraph before it."""
-    functions = FUNCTION.findall(source.text_of(root, entries.HEADER))
+    """What the headers say of each function, by its name: the numbers in the paragraph before it."""
+    functions = [found for header in entries.headers(root) for found in FUNCTION.findall(source.text_of(root, header))]
     return {name: STATED.findall(paragraph) for paragraph, name in functions}
 
 

@@ -58,6 +58,31 @@ class Edits(unittest.TestCase):
     def test_a_log_without_an_error_does_not_count(self):
         self.assertIsNotNone(self.judge("logic=not-proved\n"))
 
+    NOTE = f"note: {FOLDER}/src/more.rt:3:1: it is not proved that what the function ensures holds\n"
+    ERROR = f"{FOLDER}/proofs/more/c/Proof.antt:4:2: error: `returns`: expected type `A`\n"
+
+    def judge_each(self, *lines, module="laws::more"):
+        log = "".join(lines)
+        return edits.problem(log, FOLDER) or edits.problem_of_each(log, FOLDER, module)
+
+    def test_each_function_of_a_module_is_refused(self):
+        a, b = (f"{self.NOTE}fn laws::more::{name}: no proof: expected x\n" for name in "ab")
+        c = f"{self.ERROR}fn laws::more::c: not proved: expected x\n"
+        self.assertIsNone(self.judge_each("fn laws::one: proved\n", a, b, c))
+        self.assertIn("laws::more::d is proved", self.judge_each(a, "fn laws::more::d: proved\n", b))
+        self.assertIn("no function of laws::more", self.judge_each(self.NOTE, "fn laws::moreover::a: no proof\n"))
+
+    def test_one_function_is_refused(self):
+        a, b = f"{self.NOTE}fn laws::more::a: no proof: expected x\n", "fn laws::more::ab: proved\n"
+        self.assertIsNone(self.judge_each(a, b, module="laws::more::a"))
+        self.assertIn("laws::more::ab is proved", self.judge_each(a, b, module="laws::more::ab"))
+
+    def test_each_function_is_refused_by_a_fact(self):
+        a = f"{self.NOTE}fn laws::more::a: no proof: expected x\n"
+        unfit = f"{FOLDER}/proofs/more/b/Proof.antt:1:1: error: nothing that can be named from here\n"
+        for before in ("", unfit, f"{FOLDER}/src/more.rt:3:1: error[x]: cannot find type `u9`\n", self.ERROR):
+            self.assertIn("laws::more::b", self.judge_each(a, before, "fn laws::more::b: no proof: expected x\n"))
+
 
 class Power(unittest.TestCase):
     def test_a_fault_is_planted_once(self):
@@ -104,6 +129,12 @@ class Sizes(unittest.TestCase):
     def test_what_cannot_be_measured(self):
         with tempfile.TemporaryDirectory() as root:
             self.assertEqual(["it cannot be" in problem for _, problem in sizes.check(root)], [True] * len(sizes.ROWS))
+
+    def test_the_functions_of_a_row(self):
+        root, declared = os.path.dirname(os.path.dirname(os.path.abspath(__file__))), "gridprofile_category5_load"
+        self.assertEqual(sizes.functions_of(root, ("category5_load",)), [declared])
+        self.assertIn(declared, sizes.functions_of(root, ()))
+        self.assertRaisesRegex(source.Problem, "category4_load", sizes.functions_of, root, ("load", "category4_load"))
 
 
 class Stacks(unittest.TestCase):
@@ -577,9 +608,32 @@ class CFunctions(Repository):
         paths[CATEGORY_FILE] = free.replace("category1 as p", "category3").replace("Two p", "Two category3")
         self.assertTrue(any("is not parameters.Categories.category1" in each for each in self.problems(**paths)))
 
+    def test_a_name_is_that_of_the_category(self):
+        named = "gridprofile_category3_two"
+        changed = {
+            entries.LIST: LIST.replace("gridprofile_two", named),
+            entries.HEADER: HEADER[: HEADER.index("uint8_t gridprofile_two")],
+            "include/gridprofile_category3.h": HEADER[HEADER.index("uint8_t gridprofile_two") :].replace("gridprofile_two", named),
+            CATEGORY_FILE: CATEGORY.replace("gridprofile_two", named),
+        }
+        said = f"gridprofile::category1::{named} has the name of another category"
+        self.assertEqual(self.problems(**changed), [said])
+        self.refuses("gridprofile_category3_one has the name", INTERFACE_FILE, "gridprofile_one", "gridprofile_category3_one",
+                     **{entries.LIST: LIST.replace("gridprofile_one", "gridprofile_category3_one")})
+
+    def test_the_file_of_a_category_uses_no_other(self):
+        sizes_of_1 = CATEGORY[: CATEGORY.index("ghost use Rattle.deep")]
+        path = "crates/duty/src/category1.rt"
+        for use in ("gridprofile::category1::gridprofile_two as two", "deep::categories", "parameters::CATEGORY1"):
+            self.assertEqual(self.problems(**{path: f"{sizes_of_1}use {use};\n"}), [])
+        for use in ("gridprofile::category3::gridprofile_two as two", "deep::gridprofile_category5_two as two",
+                    "parameters::CATEGORY3 as Q", "deep::category10", "deep::gridprofile_category1x"):
+            self.refuses("of another category", INNER_FILE, **{path: f"{sizes_of_1}use {use};\n"})
+        self.refuses("is not parameters::CATEGORY1", INNER_FILE, **{path: "use other::CATEGORY1 as P;\n"})
+
 
 class Lists(Repository):
-    """List, exports and header."""
+    """List, exports and headers."""
 
     def test_the_list_has_a_line_once(self):
         self.refuses("has inner::one twice", entries.LIST, "# a comment", LIST.split("\n")[1])
@@ -613,6 +667,14 @@ class Lists(Repository):
         none = "/* uint8_t gridprofile_none(void); */"
         self.refuses("entries.txt does not have gridprofile_six", entries.HEADER, none, "int\n*gridprofile_six (void);")
         self.refuses("gridprofile.h does not have gridprofile_one", entries.HEADER, "uint8_t gridprofile_one", "// g")
+
+    def test_a_function_stands_in_its_own_header(self):
+        two = HEADER[HEADER.index("uint8_t gridprofile_two") :]
+        other = {"include/gridprofile_category3.h": two}
+        self.refuses("gridprofile.h does not have gridprofile_two", entries.HEADER, two, "", **other)
+        self.refuses("which belongs into include/gridprofile.h", entries.HEADER, two, "", **other)
+        self.refuses("entries.txt does not have gridprofile_six", entries.HEADER,
+                     **{"include/more.h": two.replace("_two", "_six")})
 
     def test_what_is_missing_is_a_problem(self):
         with tempfile.TemporaryDirectory() as root:

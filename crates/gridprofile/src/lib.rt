@@ -1,8 +1,10 @@
 // The C interface: every entry over bytes and numbers. A slice is a pointer and a length in C. What the sizes of a
 // category decide stands in the category's module; the rest is here, with the contract of the function that it calls.
 pub mod category1;
+pub mod category3;
+pub mod category5;
 
-ghost use Rattle.shake.specs.Shake.{Hashes128};
+ghost use Rattle.shake.specs.Shake.{Hashes128, Hashes256};
 ghost use Rattle.packing.specs.Packing.{PacksValues, UnpacksValues, PacksExponents, UnpacksExponents};
 ghost use Rattle.profile.specs.Rules.{classes};
 ghost use Rattle.image.specs.Entries.{ReadsImage, WritesImage};
@@ -14,6 +16,13 @@ pub extern "C" fn gridprofile_shake128(input: &[u8], out: &mut [u8])
     ensures { λ r. ⌜ Hashes128 (now (input .entry)) (now (out .entry)) (now (out .exit)) ⌝ }
 {
     shake::shake128(input, out);
+}
+
+#[no_mangle]
+pub extern "C" fn gridprofile_shake256(input: &[u8], out: &mut [u8])
+    ensures { λ r. ⌜ Hashes256 (now (input .entry)) (now (out .entry)) (now (out .exit)) ⌝ }
+{
+    shake::shake256(input, out);
 }
 
 #[no_mangle]

@@ -38,6 +38,37 @@ pub const CATEGORY1: Params = Params {
     second: 400,
 };
 
+// Categories 3 and 5, with SHAKE256's rate.
+pub const CATEGORY3: Params = Params {
+    n: 187,
+    k: 111,
+    t: 245,
+    w: 127,
+    digest: 48,
+    seed: 24,
+    rate: 136,
+    matrix: 7616,
+    exponents: 144,
+    mask: 210,
+    first: 280,
+    second: 600,
+};
+
+pub const CATEGORY5: Params = Params {
+    n: 251,
+    k: 150,
+    t: 327,
+    w: 169,
+    digest: 64,
+    seed: 32,
+    rate: 136,
+    matrix: 13664,
+    exponents: 192,
+    mask: 280,
+    first: 350,
+    second: 800,
+};
+
 // The greatest sizes that code is used at (specs/Sound): local arrays have these lengths.
 pub const PLACES: usize = 256;
 

@@ -64,10 +64,16 @@ squeezed rate d s = take d (squeezeBlocks rate d s)
 unfoldable pub shake : ℕ → List ℕ → ℕ → List ℕ
 shake rate m d = squeezed rate d (absorbed rate m)
 
--- section 6.2: a capacity of 256 bits leaves 168 bytes
+-- section 6.2: a capacity of 256 bits leaves 168 bytes, one of 512 bits leaves 136
 unfoldable pub shake128 : List ℕ → ℕ → List ℕ
 shake128 m d = shake 168 m d
 
--- what the entry promises: SHAKE128 of the input fills the lent buffer
+unfoldable pub shake256 : List ℕ → ℕ → List ℕ
+shake256 m d = shake 136 m d
+
+-- what the entries promise: SHAKE128, or SHAKE256, of the input fills the lent buffer
 abbrev pub Hashes128 : (input old new : List ℕ) → Type 0
 Hashes128 input old new = new ≡ shake128 input (length old)
+
+abbrev pub Hashes256 : (input old new : List ℕ) → Type 0
+Hashes256 input old new = new ≡ shake256 input (length old)

@@ -4,7 +4,7 @@ ghost use mathlib.Core.List.{[], _∷_, _++_};
 ghost use Prim.Native.Nat.{_+_, _-_, _*_, _%_, _<_, _≤_};
 ghost use lib.ListN.{length, take};
 ghost use Rattle.keccak.specs.Keccak.{keccakF};
-ghost use Rattle.shake.specs.Shake.{little, lowBytes, bytesOf, squeezed, shake, Hashes128};
+ghost use Rattle.shake.specs.Shake.{little, lowBytes, bytesOf, squeezed, shake, Hashes128, Hashes256};
 ghost use Rattle.shake.specs.InnerFold.{sponge as spongeOf, xorByte, xorBytes, turned, absorbBytes};
 ghost use Rattle.shake.specs.InnerFold.{Rate, Ready, Holds, Absorbs, Squeezes};
 
@@ -222,15 +222,30 @@ pub fn squeeze(sponge: Sponge, out: &mut [u8])
     squeeze_blocks(&mut lanes, rate, out);
 }
 
+// A whole string of any length, into a buffer of any length.
+fn fill(rate: usize, input: &[u8], out: &mut [u8])
+    requires { ⌜ Rate rate ⌝ }
+    ensures { λ r. ⌜ now (out .exit) ≡ shake rate (now (input .entry)) (length (now (out .entry))) ⌝ }
+{
+    let n = input.len();
+    let mut lanes = [0u64; 25];
+    let at = absorb_part(&mut lanes, 0, rate, &input[0..n]);
+    finish(&mut lanes, at, rate);
+    squeeze_blocks(&mut lanes, rate, out);
+}
+
 // SHAKE128 of a string of any length, into a buffer of any length.
 pub fn shake128(input: &[u8], out: &mut [u8])
     ensures { λ r. ⌜ Hashes128 (now (input .entry)) (now (out .entry)) (now (out .exit)) ⌝ }
 {
-    let n = input.len();
-    let mut lanes = [0u64; 25];
-    let at = absorb_part(&mut lanes, 0, 168, &input[0..n]);
-    finish(&mut lanes, at, 168);
-    squeeze_blocks(&mut lanes, 168, out);
+    fill(168, input, out);
+}
+
+// SHAKE256, in the same way.
+pub fn shake256(input: &[u8], out: &mut [u8])
+    ensures { λ r. ⌜ Hashes256 (now (input .entry)) (now (out .entry)) (now (out .exit)) ⌝ }
+{
+    fill(136, input, out);
 }
 
 // A tag byte and four parts in one call, which spares the copies of a sponge by value. A part may be empty.

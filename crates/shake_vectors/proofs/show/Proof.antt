@@ -6,19 +6,16 @@ use Rattle.shake_vectors.proofs.show.Statement.{statement}
 use Rattle.shake_vectors.proofs.show.Tie as tie
 
 abbrev Inv-loop : tie.InvT-loop
-Inv-loop input out i₀ i = i ≤ length out
+Inv-loop out i₀ i = i ≤ length out
 
 abbrev μ-loop : tie.MeasureT-loop
-μ-loop input out i₀ i = length out - i
-
-shake128-requires : tie.Need-shake128-requires Inv-loop μ-loop
-shake128-requires c κs = search needs
+μ-loop out i₀ i = length out - i
 
 loop-holds : tie.Need-loop-holds Inv-loop μ-loop
 loop-holds c = search needs
 
-slice-read-b : tie.Need-slice-read-b Inv-loop μ-loop
-slice-read-b c = search needs
+shared-slice-read-b : tie.Need-shared-slice-read-b Inv-loop μ-loop
+shared-slice-read-b c = search needs
 
 digit-requires : tie.Need-digit-requires Inv-loop μ-loop
 digit-requires c κs = search needs
@@ -47,9 +44,6 @@ slice-aggregate-write-all-2 c = search needs
 write-all-requires-2 : tie.Need-write-all-requires-2 Inv-loop μ-loop
 write-all-requires-2 c κs = search needs
 
-same-length : tie.Need-same-length Inv-loop μ-loop
-same-length c = search needs
-
 returns : tie.Need-returns Inv-loop μ-loop
 returns c = search needs
 
@@ -59,9 +53,8 @@ show-spec =
     (tie.spec
     Inv-loop
     μ-loop
-    shake128-requires
     loop-holds
-    slice-read-b
+    shared-slice-read-b
     digit-requires
     digit-requires-2
     slice-aggregate-write-all
@@ -71,5 +64,4 @@ show-spec =
     loop-again
     slice-aggregate-write-all-2
     write-all-requires-2
-    same-length
     returns)
