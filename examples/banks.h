@@ -2,10 +2,10 @@
  * be copied into firmware: C11, no allocation, no state of its own. It is tested, not proved.
  *
  * A bank holds a record: a counter (4 bytes, low byte first), the image of a store, and the digest
- * of both (SHAKE128, 32 bytes). A bank is whole where its digest is right. Of two whole banks the
- * one with the greater counter counts; with equal counters, which no commit makes, bank 0 does. A
- * commit writes the other bank and never touches the one that counts, so that after a cut the old
- * store is found, or the new one, and never a mix.
+ * of both (SHAKE128, 32 bytes, in every category). A bank is whole where its digest is right. Of two
+ * whole banks the one with the greater counter counts; with equal counters, which no commit makes,
+ * bank 0 does. A commit writes the other bank and never touches the one that counts, so that after a
+ * cut the old store is found, or the new one, and never a mix.
  *
  * A device is formatted once, in the factory, before it holds any profile; a format that was cut is
  * done again there. From then on one bank is always whole, and a device on which none is has lost

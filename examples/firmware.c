@@ -1,5 +1,5 @@
 /* How firmware uses the library: a built-in key, a store in two banks of flash with a copy in RAM,
- * and no allocation.
+ * and no allocation. It is built for one category: category.h has what that decides.
  *
  * A package arrives on standard input, as it would over the plant's network. The exit status is the
  * library's answer to loading it, or one of the two below. */
@@ -7,7 +7,7 @@
 #include <string.h>
 
 #include "banks.h"
-#include "gridprofile.h"
+#include "category.h"
 
 #define NOT_COMMITTED 100 /* the package was loaded, and the flash did not take the new store */
 #define NO_STORE 101      /* no bank has a store: the device must not work by an empty one */
@@ -15,16 +15,6 @@
 /* What this device is set to. */
 static const uint8_t country[2] = {'X', 'A'};
 static const uint32_t class_letter = 'B';
-
-/* The signer's public key. This one is for trying alone: examples/README.md tells its private seed. */
-static const uint8_t key[GRIDPROFILE_KEY_BYTES] = {
-    0x82, 0x72, 0xC4, 0xDA, 0x34, 0x3F, 0x20, 0xF7, 0x68, 0x0F, 0xC5, 0x13, 0xE6,
-    0xC5, 0xEF, 0xC3, 0x77, 0xD9, 0x3E, 0xE0, 0xF5, 0xB3, 0x87, 0x40, 0xDC, 0xE6,
-    0xCB, 0x72, 0xAF, 0x7A, 0xB5, 0xED, 0x0D, 0x5B, 0xCF, 0x39, 0x22, 0x90, 0xC0,
-    0x3D, 0xAE, 0x07, 0x3A, 0x28, 0x83, 0xA7, 0x99, 0x45, 0x38, 0xDE, 0xCD, 0xC6,
-    0xBE, 0x65, 0xAA, 0xD3, 0x62, 0x59, 0xA4, 0x6B, 0xD5, 0xA2, 0xCA, 0x20, 0x9B,
-    0xB2, 0x6E, 0x0B, 0x27, 0xBF, 0x9B, 0x56, 0x6F, 0xC3, 0x4A, 0xBD, 0x1C,
-};
 
 /* On a device: the flash driver. Here two arrays stand for the banks. */
 static uint8_t cells[BANKS_COUNT][BANKS_RECORD_BYTES];
@@ -53,7 +43,7 @@ static const struct banks_flash flash = {flash_erase, flash_program, flash_read}
 static uint8_t store[GRIDPROFILE_STORE_IMAGE_BYTES];
 
 /* One byte more than a package may have, so that a longer one is not taken for a whole one. */
-static uint8_t package[GRIDPROFILE_PACKAGE_MAX_BYTES + 1];
+static uint8_t package[PACKAGE_MAX_BYTES + 1];
 
 static size_t receive(void)
 {
@@ -64,18 +54,17 @@ static size_t receive(void)
  * before it acts, for instance before it passes a package on. */
 static uint8_t verify(size_t length)
 {
-    if (length < GRIDPROFILE_PACKAGE_MIN_BYTES || length > GRIDPROFILE_PACKAGE_MAX_BYTES)
+    if (length < PACKAGE_MIN_BYTES || length > PACKAGE_MAX_BYTES)
         return GRIDPROFILE_BAD_SIZE;
-    return gridprofile_verify(key, sizeof key, package + GRIDPROFILE_SIGNATURE_BYTES,
-                              length - GRIDPROFILE_SIGNATURE_BYTES, package,
-                              GRIDPROFILE_SIGNATURE_BYTES);
+    return verify_signature(key, sizeof key, package + SIGNATURE_BYTES, length - SIGNATURE_BYTES,
+                            package, SIGNATURE_BYTES);
 }
 
 /* Verifies and stores in the copy, or refuses and leaves it as it was. */
 static uint8_t load(size_t length)
 {
-    return gridprofile_load(store, sizeof store, key, sizeof key, package, length, country,
-                            sizeof country, class_letter);
+    return load_package(store, sizeof store, key, sizeof key, package, length, country,
+                        sizeof country, class_letter);
 }
 
 /* The limits that this device works by. */

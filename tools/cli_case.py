@@ -5,6 +5,7 @@ import os
 import shutil
 import subprocess
 import tempfile
+import typing
 import unittest
 
 ROOT = os.path.dirname(os.path.dirname(os.path.abspath(__file__)))
@@ -17,20 +18,58 @@ DAMAGED_STORE = 65
 SELF_CHECK_FAILED = 70
 NO_RANDOM_BYTES = 71
 FILE_TROUBLE = 74
-SIGNATURE = 19152
 # A store's image, and the file that the program makes of it.
 IMAGE = 1024
 STORE = 1056
 
-# The seeds that examples/README.md tells.
-PRIVATE = bytes(range(32))
-MASTER = bytes(range(100, 116))
-SALT = bytes(range(200, 232))
+
+class Category(typing.NamedTuple):
+    """What a category decides: bytes of its files, its hash, and numbers of the scheme."""
+    number: int
+    seed: int  # of a private seed, a salt and a digest
+    master: int  # of a master seed, a round's seed and a fingerprint
+    key: int
+    signature: int
+    hash: typing.Callable
+    places: int
+    exponents: int  # bytes of the block that they are drawn from
+    rounds: int
+    ones: int
+    first_of_salt: int
+
+    def shake(self, data, length):
+        return self.hash(data).digest(length)
+
+    def seeds(self):
+        """Private seed, master seed and salt that examples/README.md tells."""
+        return (bytes(range(self.seed)), bytes(range(100, 100 + self.master)),
+                bytes(range(self.first_of_salt, self.first_of_salt + self.seed)))
+
+    def option(self):
+        return "--category", str(self.number)
+
+
+FIRST = Category(1, 32, 16, 77, 19152, hashlib.shake_128, 127, 96, 163, 85, 200)
+THIRD = Category(3, 48, 24, 115, 42682, hashlib.shake_256, 187, 144, 245, 127, 150)
+FIFTH = Category(5, 64, 32, 153, 76298, hashlib.shake_256, 251, 192, 327, 169, 150)
+CATEGORIES = FIRST, THIRD, FIFTH
+
+# Of category 1.
+SIGNATURE = FIRST.signature
+PRIVATE, MASTER, SALT = FIRST.seeds()
 
 LINE = b"GP1,XA,B,12,230,50,1150,100,800,1500,1500,100,-2500,100\n"
 LINE_C = b"GP1,XA,C,5,400,50,1100,200,850,1500,1500,100,-2500,100\n"
 # A frequency that there is not.
 BAD_LINE = LINE.replace(b",50,", b",55,")
+
+# What has so many bytes, in the program's words.
+KINDS = {16: "a master seed of category 1", 24: "a master seed of category 3",
+         32: "a private seed or a salt of category 1, or a master seed of category 5",
+         48: "a private seed or a salt of category 3, or a profile line",
+         64: "a private seed or a salt of category 5, or a profile line",
+         77: "a public key of category 1", 115: "a public key of category 3", 153: "a public key of category 5",
+         1024: "a store without a checksum", 1056: "a store"}
 
 made = {}
 
@@ -49,20 +88,20 @@ def sealed(image):
     return image + shake(image, 32)
 
 
-def fingerprint(key):
+def fingerprint(key, category=FIRST):
     """The line that names a key."""
-    digits = shake(key, 16).hex()
-    return "key fingerprint: " + " ".join(digits[at:at + 4] for at in range(0, 32, 4)) + "\n"
+    digits = category.shake(key, category.master).hex()
+    return "key fingerprint: " + " ".join(digits[at:at + 4] for at in range(0, len(digits), 4)) + "\n"
 
 
 # What each refusal says, and what it tells to do.
-REFUSALS = {1: ("size", "gridprofile help"), 2: ("draw from the seeds is short", "make another key"),
+REFUSALS = {1: ("size", "gridprofile help|--category"), 2: ("draw from the seeds is short", "make another key"),
             3: ("out of range", "fetch (both|it) again"), 4: ("signature does not hold", "do not use this package"),
             5: ("breaks a ", "correct the line|take a copy"), 6: ("another country or class", "which device"),
             7: ("is not greater than", "greater serial|nothing can"), 8: ("16 profiles are stored", "another store"),
             9: ("nothing is stored", "load a package"), 10: ("is not two letters", "as in: XA B")}
 
-# The seeds are named so that a seed is a file which only its owner can read.
+# The seeds are named so that a seed is a file which only its owner can read; a category's number may stand behind.
 SECRET_NAMES = ("private", "master")
 GIVEN = ("--key", "key", "--given-master-seed", "master", "--given-salt", "salt")
 
@@ -83,7 +122,7 @@ class Case(unittest.TestCase):
     def put(self, name, data):
         with open(self.path(name), "wb") as file:
             file.write(data)
-        if name in SECRET_NAMES:
+        if name.rstrip("135") in SECRET_NAMES:
             os.chmod(self.path(name), 0o600)
         return name
 
@@ -152,15 +191,18 @@ class Case(unittest.TestCase):
             made[key], _ = self.warned(*words)
         return self.put(name, made[key])
 
-    def key(self, private=PRIVATE, name="key"):
+    def key(self, private=None, name="key", category=FIRST):
         """The name of a file with the public key of a private seed."""
-        return self.make(name, ("key", "private", "-"), ("private", private))
+        private = private or category.seeds()[0]
+        return self.make(name, ("key", "private", "-", *category.option()), ("private", private))
 
-    def package(self, line=LINE, name="package", private=PRIVATE, master=MASTER):
+    def package(self, line=LINE, name="package", private=None, master=None, category=FIRST):
         """The name of a file with a package of a line."""
-        self.key(private)
-        parts = ("private", private), ("master", master), ("salt", SALT), ("line", line)
-        return self.make(name, ("sign", "private", "line", "-", *GIVEN), *parts)
+        own_private, own_master, salt = category.seeds()
+        private, master = private or own_private, master or own_master
+        self.key(private, category=category)
+        parts = ("private", private), ("master", master), ("salt", salt), ("line", line)
+        return self.make(name, ("sign", "private", "line", "-", *GIVEN, *category.option()), *parts)
 
     def store(self, *lines, name="store"):
         """The name of a file with an empty store, into which lines are then loaded."""

@@ -20,6 +20,8 @@ ROWS = (
     ("verify", ("verify",)),
     ("load, lookup", ("load", "lookup")),
     ("verify, load, lookup, shake128, as the firmware above", ("verify", "load", "lookup", "shake128")),
+    ("the same at category 3", ("category3_verify", "category3_load", "lookup", "shake128")),
+    ("the same at category 5", ("category5_verify", "category5_load", "lookup", "shake128")),
     ("every entry", ()),
 )
 
@@ -29,9 +31,19 @@ def printed(*command, cwd):
     return subprocess.run(command, cwd=cwd, check=True, text=True, stdout=subprocess.PIPE).stdout
 
 
+def functions_of(root, names):
+    """The C functions of a row. One that is not declared is an error: the linker would count it as nothing."""
+    declared = entries.declared(root)
+    functions = [f"gridprofile_{name}" for name in names] or declared
+    for function in functions:
+        if function not in declared:
+            raise source.Problem(f"{function} is not declared")
+    return functions
+
+
 def text_bytes(root, names):
     """The bytes of code and constants that are left of the archive. memcpy and memset are the caller's."""
-    functions = [f"gridprofile_{name}" for name in names] or entries.declared(root)
+    functions = functions_of(root, names)
     roots = [word for function in functions for word in ("-u", function)]
     flags = ["--gc-sections", "--unresolved-symbols=ignore-all", "-e", functions[0]]
     printed("ld", *flags, *roots, ARCHIVE, "-o", LINKED, cwd=root)

@@ -1,4 +1,4 @@
-"""The stack check: the header says of each function how much stack it needs, and what was measured is not more than
+"""The stack check: a header says of each function how much stack it needs, and what was measured is not more than
 that, nor much less."""
 
 import re
@@ -6,7 +6,7 @@ import re
 import entries
 import source
 
-SLACK = 256  # what the header may say above the measured bytes
+SLACK = 256  # what a header may say above the measured bytes
 FUNCTION = re.compile(r"/\*((?:(?!\*/).)*)\*/\s*\w+ gridprofile_(\w+)\s*\(", re.S)
 STATED = re.compile(r"\bStack: (\d+) bytes\.")
 MEASURED = re.compile(r"(\w+) (\d+)")
@@ -35,7 +35,7 @@ def problem(says, used):
 
 
 def check(root, text):
-    """A pair for each function that the header declares or that was measured: what it is, and its problem or None."""
+    """A pair for each function that a header declares or that was measured: what it is, and its problem or None."""
     says, used = stated(root), measured(text)
     names = [name.removeprefix("gridprofile_") for name in entries.declared(root)]
     names += [name for name in used if name not in names]

@@ -11,9 +11,11 @@ import unittest
 
 sys.dont_write_bytecode = True
 sys.path.insert(0, os.path.dirname(os.path.abspath(__file__)))
-from cli_case import (ARCHIVE, BAD_LINE, DAMAGED_STORE, FILE_TROUBLE, GIVEN, IMAGE, LINE, LINE_C,  # noqa: E402
-                      MASTER, NO_RANDOM_BYTES, PREVIEW, PRIVATE, PROGRAM, ROOT, SALT, SELF_CHECK_FAILED, SIGNATURE,
-                      STORE, WRONG_USAGE, Case, fingerprint, line_of, sealed, shake)
+from cli_case import (ARCHIVE, BAD_LINE, CATEGORIES, DAMAGED_STORE, FIFTH, FILE_TROUBLE, FIRST, GIVEN,  # noqa: E402
+                      IMAGE, LINE, LINE_C, MASTER, NO_RANDOM_BYTES, PREVIEW, PRIVATE, PROGRAM, ROOT, SALT,
+                      SELF_CHECK_FAILED, SIGNATURE, STORE, THIRD, WRONG_USAGE, Case, fingerprint, line_of, sealed,
+                      shake)
+import test_cli_categories  # noqa: E402
 import test_cli_files  # noqa: E402
 import test_cli_lines  # noqa: E402
 import test_cli_safe  # noqa: E402
@@ -29,10 +31,11 @@ class Key(Case):
         self.assertEqual(said.decode(), fingerprint(key))
 
     def test_seeds_of_other_sizes_are_1(self):
-        for size, has in ((0, "0 bytes"), (31, "31 bytes"), (33, "at least 33 bytes"), (100_000, "100000 bytes"),
-                          (77, "77 bytes, the size of a public key"), (16, "16 bytes, the size of a master seed")):
+        for size, has in ((0, "0 bytes"), (31, "31 bytes"), (33, "33 bytes"), (65, "at least 65 bytes"),
+                          (100_000, "100000 bytes"), (77, "77 bytes, the size of a public key of category 1"),
+                          (16, "16 bytes, the size of a master seed of category 1")):
             said = self.refused(1, "key", self.put("private", bytes(size)), "key")
-            self.assertIn(f"PRIVATE (private) has {has}; it must have 32\n", said)
+            self.assertIn(f"PRIVATE (private) has {has}; it must have 32 at category 1\n", said)
 
     def test_endless_seed_is_1(self):
         self.refused(1, "key", "/dev/zero", "key")
@@ -66,7 +69,7 @@ class Sign(Case):
         self.assertEqual((len(shortest), len(longest)), (42, 72))
         for line in (shortest, longest):
             self.done("verify", self.key(), self.package(line))
-            self.assertTrue(self.done("show", "package").startswith(b"A package. "))
+            self.assertTrue(self.done("show", "package").startswith(b"A package of category 1. "))
 
     def test_wrong_sizes_are_1(self):
         self.key()
@@ -136,24 +139,28 @@ class Sign(Case):
 # Signs any message, as only somebody with the private seed can, so that a bad line comes under a good signature.
 SIGN_ANY = """
 #include <stdio.h>
-#include "gridprofile.h"
+#include "gridprofile_category3.h"
+#include "gridprofile_category5.h"
 int main(void)
 {
-    uint8_t seeds[80], line[73], signature[GRIDPROFILE_SIGNATURE_BYTES];
-    size_t length = fread(seeds, 1, 80, stdin) == 80 ? fread(line, 1, 73, stdin) : 0;
-    if (gridprofile_sign(seeds, 32, seeds + 32, 16, seeds + 48, 32, line, length, signature, sizeof signature) != 0)
+    uint8_t seeds[2 * SEED + MASTER], line[73], signature[SIGNATURE], *master = seeds + SEED, *salt = master + MASTER;
+    size_t length = fread(seeds, 1, sizeof seeds, stdin) == sizeof seeds ? fread(line, 1, 73, stdin) : 0;
+    if (SIGN(seeds, SEED, master, MASTER, salt, SEED, line, length, signature, sizeof signature) != 0)
         return 1;
     return fwrite(signature, 1, sizeof signature, stdout) + fwrite(line, 1, length, stdout) == 0;
 }
 """
 
 
-def package_any(case, line):
+def package_any(case, line, category=FIRST):
     """The name of a file with a package of any bytes of a line's length."""
     case.put("any.c", SIGN_ANY.encode())
+    function = "gridprofile_sign" if category is FIRST else f"gridprofile_category{category.number}_sign"
+    names = {"SIGN": function, "SEED": category.seed, "MASTER": category.master, "SIGNATURE": category.signature}
     gcc = ["gcc", "-std=c11", "-I", os.path.join(ROOT, "include"), case.path("any.c"), ARCHIVE, "-o", case.path("any")]
-    subprocess.run(gcc, check=True)
-    made = subprocess.run([case.path("any")], input=PRIVATE + MASTER + SALT + line, stdout=subprocess.PIPE, check=True)
+    subprocess.run([*gcc, *(f"-D{name}={value}" for name, value in names.items())], check=True)
+    given = b"".join(category.seeds()) + line
+    made = subprocess.run([case.path("any")], input=given, stdout=subprocess.PIPE, check=True)
     return case.put("package", made.stdout)
 
 
@@ -177,8 +184,11 @@ class Verify(Case):
     def test_exchanged_files_are_named(self):
         self.package()
         said = self.refused(1, "verify", "package", "key")
-        self.assertIn("KEY (package) has 19208 bytes, the size of a package; it must have 77\n", said)
-        self.assertIn("PACKAGE (key) has 77 bytes, the size of a public key; it must have 19194 to 19224\n", said)
+        self.assertIn("KEY (package) has 19208 bytes, the size of a package of category 1; it must have 77 at category "
+                      "1\n", said)
+        self.assertIn("PACKAGE (key) has 77 bytes, the size of a public key of category 1; it must have 19194 to 19224 "
+                      "at category 1\n", said)
+        self.assertIn("What to do: give the files in the order of the usage; ", said)
 
     def test_damage_is_3_or_4(self):
         key, package = self.get(self.key()), self.get(self.package())
@@ -194,8 +204,9 @@ class Verify(Case):
         self.assertIn("  " + fingerprint(self.get("key")), said)
 
     def test_signed_line_that_breaks_a_rule_is_5(self):
-        said = self.refused(5, "verify", self.key(), package_any(self, BAD_LINE))
-        self.assertIn("field 6, ", said)
+        for category in CATEGORIES:
+            words = "verify", self.key(category=category), package_any(self, BAD_LINE, category), *category.option()
+            self.assertIn("field 6, ", self.refused(5, *words))
 
 
 class Load(Case):
@@ -300,7 +311,9 @@ class Load(Case):
 
     def test_signed_line_that_breaks_a_rule_is_5(self):
         self.store()
-        self.assertIn("field 6, ", self.refused(5, "load", "store", "key", package_any(self, BAD_LINE), "XA", "B"))
+        for category in CATEGORIES:
+            words = "load", "store", self.key(category=category), package_any(self, BAD_LINE, category), "XA", "B"
+            self.assertIn("field 6, ", self.refused(5, *words, *category.option()))
 
     def test_every_refusal_of_a_stocked_store_leaves_it(self):
         self.done(*self.load(LINE, "XA", "B"))
@@ -440,20 +453,21 @@ WORDS = """country XA, class B, serial 12
 class Show(Case):
     def test_package(self):
         shown = self.done("show", self.package()).decode()
-        self.assertEqual(shown, "A package. Showing does not verify it; `verify` and `load` do.\n" + WORDS)
+        told = "A package of category 1. Showing does not verify it; `verify` and `load` do.\n"
+        self.assertEqual(shown, told + WORDS)
 
     def test_line(self):
         self.assertEqual(self.done("show", self.put("line", LINE)).decode(), "A line, not signed.\n" + WORDS)
 
     def test_key(self):
         shown = self.done("show", self.key()).decode()
-        self.assertEqual(shown, "A public key.\n" + fingerprint(self.get("key")))
+        self.assertEqual(shown, "A public key of category 1.\n" + fingerprint(self.get("key")))
         self.assertRegex(shown, r"\nkey fingerprint:( [0-9a-f]{4}){8}\n$")
         for key in (b"\xff" * 77, flip(self.get("key"), 76, 0x80)):
             self.assertIn("a field is out of range", self.refused(3, "show", self.put("bad", key)))
         for value in range(8):
             shown = self.done("show", self.put("key", bytes([value]) * 77)).decode()
-            self.assertEqual(shown, "A public key.\n" + fingerprint(self.get("key")))
+            self.assertEqual(shown, "A public key of category 1.\n" + fingerprint(self.get("key")))
 
     def test_store(self):
         shown = self.done("show", self.store(LINE, LINE_C)).decode()
@@ -473,11 +487,8 @@ class Show(Case):
             self.assertIn(words, shown)
 
     def test_other_sizes_are_1(self):
-        for size in (0, 41, 73, 1023, 1025, 19193, 19225):
+        for size in (0, 41, 73, 76, 78, 114, 116, 152, 154, 1023, 1025, 19193, 19225, 42723, 42755, 76339, 76371, 9999):
             self.assertIn("bad has the size of no line", self.refused(1, "show", self.put("bad", bytes(size))))
-        for size, name in ((16, "a master seed"), (32, "a private seed or a salt")):
-            self.assertIn(f"has the size of {name}, of which nothing is shown",
-                          self.refused(1, "show", self.put("bad", bytes(size))))
 
     def test_what_breaks_a_rule_is_5(self):
         package = self.get(self.package())[:SIGNATURE] + BAD_LINE
@@ -489,7 +500,7 @@ class Show(Case):
             self.assertNotIn(b"55", ran.stdout)
 
     def test_what_has_the_size_of_a_line_is_taken_for_one(self):
-        for size in (42, 72):
+        for size in (42, 47, 49, 63, 65, 72):
             ran = self.run_in("show", self.put("bad", b"x" * size))
             self.assertEqual((ran.returncode, ran.stdout), (5, b"A line, not signed.\n"))
 
@@ -630,6 +641,7 @@ class Usage(Case):
                       ["sign", "private", "line", "out", "--key"], ["sign", "private", "line", "out", "-x"],
                       ["sign", "private", "line", "out", "--key", "key", "--key", "key"]):
             self.wrong(*words)
+        self.assertRegex(self.wrong("key", "private", "out", "--wait", "")[0], ', not ""$')
 
     def test_values_behind_an_equals_sign(self):
         self.package()
@@ -700,10 +712,19 @@ class Readme(Case):
         self.assertEqual(sorted(named), sorted(Usage.COUNTS))
 
 
+def formats():
+    with open(os.path.join(ROOT, "docs/FORMATS.md"), encoding="utf-8") as file:
+        return file.read()
+
+
+def shortened(data):
+    """As the document writes what is too long for a line."""
+    return f"{data[:8].hex(' ').upper()} .. {data[-8:].hex(' ').upper()}"
+
+
 class Formats(Case):
     def test_worked_bytes_are_those_of_the_examples(self):
-        with open(os.path.join(ROOT, "docs/FORMATS.md"), encoding="utf-8") as file:
-            text = file.read()
+        text = formats()
         hexadecimal = "".join(re.findall(r"\b[0-9A-F]{2}(?: [0-9A-F]{2}){7,}", text)).replace(" ", "")
         key, package = self.get(self.key()), self.get(self.package())
         wanted = {"public seed": key[:32], "packed syndrome": key[32:], "digest of the key": shake(key, 32),
@@ -712,20 +733,52 @@ class Formats(Case):
                   "digest of the signature": shake(package[:SIGNATURE], 32),
                   "digest of the package": shake(package, 32)}
         self.assertEqual([name for name, data in wanted.items() if data.hex().upper() not in hexadecimal], [])
-        self.assertIn("\n    " + fingerprint(key).split(": ")[1], text)
+
+    def test_fingerprints(self):
+        for category in CATEGORIES:
+            key = self.get(self.key(category=category))
+            self.assertIn("\n    " + fingerprint(key, category).split(": ")[1], formats())
+
+    def test_worked_bytes_of_categories_3_and_5(self):
+        for category, first_round in ((THIRD, {"seed of round 1": (0, 24), "c0(1)": (24, 72)}),
+                                      (FIFTH, {"y": (0, 220), "sigma": (220, 315), "c1(1)": (315, 379)})):
+            seed, (private, master, salt) = category.seed, category.seeds()
+            key, package = self.get(self.key(category=category)), self.get(self.package(category=category))
+            seeds = category.shake(b"\x09" + master + salt, category.rounds * category.master)
+            wanted = {"secret seed": category.shake(b"\x0c" + private, 2 * seed)[:seed], "public seed": key[:seed],
+                      "packed s": key[seed:], "c": package[seed:2 * seed], "h": package[2 * seed:3 * seed],
+                      "first round seed": seeds[:category.master], "last round seed": seeds[-category.master:]}
+            wanted |= {name: package[3 * seed + at:3 * seed + end] for name, (at, end) in first_round.items()}
+            text = formats()
+            self.assertEqual([name for name, data in wanted.items() if shortened(data) not in text], [])
+            for whole in (key, package, package[:category.signature]):
+                self.assertIn(category.shake(whole, 32).hex(" ").upper() + "\n", text)
+
+    def commands(self, category):
+        """Those of the document, as a reader pastes them, with the words that its table has for the category."""
+        section = formats().split("## Reproducing the worked bytes")[1]
+        block = re.search(r"\n((?:    .*\n)+)", section).group(1)
+        rows = re.findall(r"^\| [a-z].*", section, re.M)
+        self.assertEqual(len(rows), 6)
+        for cells in ([cell.strip(" `") for cell in row.split("|")[2:-1]] for row in rows):
+            old, new = cells[0], cells[CATEGORIES.index(category)]
+            place = re.escape(old) if old else "(?<=gridprofile key)|(?<=gridprofile sign)"
+            block, count = re.subn(place, new if old else " " + new, block)
+            self.assertGreaterEqual(count, 1)
+        return "\n".join(line for line in block.splitlines() if "openssl" not in line)
 
     def test_reproducing_them(self):
-        """The commands of the document, as a reader pastes them."""
-        with open(os.path.join(ROOT, "docs/FORMATS.md"), encoding="utf-8") as file:
-            block = re.search(r"\n((?:    .*\n)+)", file.read().split("## Reproducing the worked bytes")[1]).group(1)
-        os.makedirs(self.path("target/cli"))
-        os.symlink(PROGRAM, self.path("target/cli/gridprofile"))
-        os.symlink(os.path.join(ROOT, "examples"), self.path("examples"))
-        commands = "\n".join(line for line in block.splitlines() if "openssl" not in line)
-        ran = subprocess.run(["sh", "-e"], input=commands.encode(), cwd=self.folder, capture_output=True, check=False)
-        self.assertEqual((ran.returncode, ran.stderr), (0, b""))
-        with open(os.path.join(ROOT, "examples/xa-b.package"), "rb") as file:
-            self.assertEqual(self.get("package"), file.read())
+        for category in CATEGORIES:
+            folder = self.path(str(category.number))
+            os.makedirs(os.path.join(folder, "target/cli"))
+            os.symlink(PROGRAM, os.path.join(folder, "target/cli/gridprofile"))
+            os.symlink(os.path.join(ROOT, "examples"), os.path.join(folder, "examples"))
+            ran = subprocess.run(["sh", "-e"], input=self.commands(category).encode(), cwd=folder, capture_output=True,
+                                 check=False)
+            self.assertEqual((ran.returncode, ran.stderr), (0, b""))
+            of = "" if category is FIRST else f".category{category.number}"
+            with open(os.path.join(ROOT, f"examples/xa-b{of}.package"), "rb") as file:
+                self.assertEqual(self.get(f"{category.number}/package"), file.read())
 
 
 class Firmware(Case):
@@ -761,6 +814,18 @@ class Firmware(Case):
         said = b"verify answers 0\nload answers 0\ncommitted\nlookup answers 0\n" + LINE
         self.assertEqual((ran.returncode, ran.stdout), (0, said + b"load of the same package again answers 7\n"))
 
+    def test_device_of_each_category(self):
+        """It takes the package of its own category, and refuses those of the others with 1."""
+        packages = [self.get(self.package(category=category)) for category in CATEGORIES]
+        for at, category in enumerate(CATEGORIES):
+            made = self.path("device")
+            self.build([made if word == self.PROGRAM else word for word in self.command] +
+                       [f"-DCATEGORY={category.number}"])
+            for package, answer in zip(packages, (0 if other == at else 1 for other in range(len(packages)))):
+                ran = subprocess.run([made], input=package, capture_output=True, check=False)
+                said = b"verify answers %d\nload answers %d\n" % (answer, answer)
+                self.assertEqual((ran.returncode, ran.stdout[:len(said)]), (answer, said))
+
     def test_flash_that_does_not_take_the_new_store(self):
         """The last byte of the second record is lost: the device goes on with the store that it had."""
         ran = self.with_flash(self.TAKES, self.TAKES.replace("length", "length - bank"))
@@ -794,7 +859,8 @@ class Demo(Case):
         ran = subprocess.run([os.path.join(ROOT, "tools/demo"), PROGRAM], env={**os.environ, "TMPDIR": self.folder},
                              capture_output=True, check=False)
         self.assertEqual(ran.returncode, 0, ran.stderr)
-        for words in (b"refused with 6: ", b"exit status 6\n", b"A store with 2 of 16 profiles.\n", LINE, b"\nDone: "):
+        for words in (b"refused with 6: ", b"exit status 6\n", b"A store with 2 of 16 profiles.\n", LINE,
+                      b"\n$ gridprofile verify key.5 xa-b.5.package --category 5\nThe signature holds", b"\nDone: "):
             self.assertIn(words, ran.stdout)
         self.assertEqual(self.names(), [])
 
@@ -821,7 +887,7 @@ class Result(unittest.TestResult):
 def main():
     load = unittest.defaultTestLoader.loadTestsFromModule
     result = Result()
-    modules = (sys.modules[__name__], test_cli_files, test_cli_lines, test_cli_safe)
+    modules = (sys.modules[__name__], test_cli_categories, test_cli_files, test_cli_lines, test_cli_safe)
     unittest.TestSuite([load(module) for module in modules]).run(result)
     bad = len(result.failures) + len(result.errors)
     print(f"program: {result.testsRun - bad} ok, {bad} failed")

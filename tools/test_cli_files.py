@@ -10,8 +10,8 @@ import subprocess
 import time
 import unittest
 
-from cli_case import (DAMAGED_STORE, FILE_TROUBLE, GIVEN, IMAGE, LINE, MASTER, PRIVATE, PROGRAM, SALT, WRONG_USAGE,
-                      Case, line_of, sealed, shake)
+from cli_case import (CATEGORIES, DAMAGED_STORE, FILE_TROUBLE, FIRST, GIVEN, IMAGE, LINE, PRIVATE, PROGRAM,
+                      WRONG_USAGE, Case, line_of, sealed)
 
 NOBODY = 65534
 
@@ -453,11 +453,16 @@ def full_pipe():
     return reading, writing, held
 
 
-def exponents(block):
-    """The fields of three bits, lowest first, without sevens: 127 of them, a byte each."""
+def exponents(block, count):
+    """The fields of three bits, lowest first, without sevens: so many of them, a byte each."""
     number = int.from_bytes(block, "little")
     fields = [number >> 3 * at & 7 for at in range(8 * len(block) // 3)]
-    return bytes([field for field in fields if field != 7][:127])
+    return bytes([field for field in fields if field != 7][:count])
+
+
+def pieces(secret):
+    """Of 16 bytes, the last one too: a part that is left is as bad as the whole."""
+    return [secret[at:at + 16] for at in (*range(0, len(secret) - 16, 16), len(secret) - 16)]
 
 
 def search_traces(seed):
@@ -470,8 +475,12 @@ def search_traces(seed):
     return [bytes(table[first:last + 1]) for first, last in zip(entries, entries[3:])]
 
 
-# Seeds without a pattern, so that they stand in memory for no other reason.
-HIDDEN = shake(b"a private seed", 32), shake(b"a master seed", 16)
+def hidden(category):
+    """A private and a master seed without a pattern, so that they stand in memory for no other reason."""
+    return category.shake(b"a private seed", category.seed), category.shake(b"a master seed", category.master)
+
+
+HIDDEN = hidden(FIRST)
 
 
 @unittest.skipUnless(os.getuid() == 0, "only root can look into the program's memory")
@@ -494,47 +503,60 @@ class Memory(Case):
     def written(self):
         return self.out.read()[self.held:]
 
-    def key_secrets(self, private=HIDDEN[0]):
-        """What only the private seed gives."""
-        secret_seed = shake(b"\x0c" + private, 64)[:32]
-        return [private, secret_seed, exponents(shake(b"\x0a" + secret_seed, 96))[:64]]
+    def key_secrets(self, category, private):
+        """What only the private seed gives. Sixteen exponents are few enough to be told, and more than chance makes."""
+        secret_seed = category.shake(b"\x0c" + private, 2 * category.seed)[:category.seed]
+        block = category.shake(b"\x0a" + secret_seed, category.exponents)
+        return pieces(private) + pieces(secret_seed) + pieces(exponents(block, category.places))
 
-    def round_secrets(self, package):
+    def round_secrets(self, category, master, package):
         """What only the master seed gives: the seeds of the rounds that the signature does not show."""
-        rounds = shake(b"\x09" + HIDDEN[1] + SALT, 2608)
-        unseen = [rounds[at:at + 16] for at in range(0, 2608, 16) if rounds[at:at + 16] not in package]
-        self.assertEqual(len(unseen), 163 - 85)
-        return [HIDDEN[1], *unseen]
+        size = category.master
+        seeds = category.shake(b"\x09" + master + category.seeds()[2], category.rounds * size)
+        unseen = [seeds[at:at + size] for at in range(0, len(seeds), size) if seeds[at:at + size] not in package]
+        self.assertEqual(len(unseen), category.rounds - category.ones)
+        return pieces(master) + [piece for seed in unseen for piece in pieces(seed)]
+
+    def check_signed(self, category, package, after):
+        """What is in memory after signing: the package, and nothing of the seeds or of the search for them."""
+        private, master = hidden(category)
+        self.assertIn(package, after)
+        secrets = self.key_secrets(category, private) + self.round_secrets(category, master, package)
+        secrets += [trace for seed in (private, master) for piece in pieces(seed) for trace in search_traces(piece)]
+        self.assertEqual([secret.hex() for secret in secrets if secret in after], [])
 
 
 class Secrets(Memory):
     def test_key_is_wiped_before_the_output(self):
-        key = self.get(self.key(HIDDEN[0]))
-        self.start("key", "private", "-")
-        after = self.memory_at(WRITES_OUTPUT)
-        self.assertEqual(self.written(), key)
-        self.assertIn(key, after)
-        self.assertEqual([secret.hex() for secret in self.key_secrets() if secret in after], [])
+        for category in CATEGORIES:
+            private = hidden(category)[0]
+            key = self.get(self.key(private, category=category))
+            self.start("key", "private", "-", *category.option())
+            after = self.memory_at(WRITES_OUTPUT)
+            self.assertEqual(self.written(), key)
+            self.assertIn(key, after)
+            self.assertEqual([secret for secret in self.key_secrets(category, private) if secret in after], [])
 
     def test_sign_is_wiped_before_the_output(self):
-        package = self.get(self.package(private=HIDDEN[0], master=HIDDEN[1]))
-        words = ["-" if word == "salt" else word for word in SIGN]
-        self.start(*words)
-        before = self.memory_at(READS_INPUT)
-        self.process.stdin.write(SALT)
-        self.process.stdin.close()
-        after = self.memory_at(WRITES_OUTPUT)
-        self.assertEqual(self.written(), package)
-        self.assertEqual([before.count(seed) for seed in HIDDEN], [1, 1])
-        self.assertIn(package, after)
-        secrets = self.key_secrets() + self.round_secrets(package) + search_traces(HIDDEN[1])
-        self.assertEqual([secret.hex() for secret in secrets if secret in after], [])
+        for category in CATEGORIES:
+            private, master = hidden(category)
+            package = self.get(self.package(private=private, master=master, category=category))
+            self.start(*("-" if word == "salt" else word for word in SIGN), *category.option())
+            before = self.memory_at(READS_INPUT)
+            self.process.stdin.write(category.seeds()[2])
+            self.process.stdin.close()
+            after = self.memory_at(WRITES_OUTPUT)
+            self.assertEqual(self.written(), package)
+            self.assertEqual([before.count(seed) for seed in (private, master)], [1, 1])
+            self.check_signed(category, package, after)
 
     def test_new_key_is_wiped_before_the_output(self):
-        self.start("new-key", "fresh", "-")
-        after = self.memory_at(WRITES_OUTPUT)
-        self.assertIn(self.written(), after)
-        self.assertEqual([secret.hex() for secret in self.key_secrets(self.get("fresh")) if secret in after], [])
+        for category in CATEGORIES:
+            name = f"fresh{category.number}"
+            self.start("new-key", name, "-", *category.option())
+            after = self.memory_at(WRITES_OUTPUT)
+            self.assertIn(self.written(), after)
+            self.assertEqual([secret for secret in self.key_secrets(category, self.get(name)) if secret in after], [])
 
     def test_crash_leaves_no_core(self):
         """Also where a seed is given by mistake. Memory that must not be dumped belongs to root, whoever runs it."""
@@ -546,18 +568,29 @@ class Secrets(Memory):
                 self.assertRegex(limits.read(), r"Max core file size +0 +0 ")
 
     def test_never_printed(self):
-        self.key(HIDDEN[0]), self.package(private=HIDDEN[0], master=HIDDEN[1])
-        seeds = self.put("long", HIDDEN[0] + HIDDEN[1])
+        """Whatever the category of the seeds, and whatever the one that is asked for."""
+        for category in CATEGORIES:
+            private, master = hidden(category)
+            self.package(private=private, master=master, category=category)
+            self.put("long", private + master)
+            for words in self.commands_with_seeds():
+                for asked in CATEGORIES if words[0] in ("key", "sign", "verify") else (None,):
+                    ran = self.run_in(*words, *(asked.option() if asked else ()))
+                    self.check_not_said((private, master), ran.stdout + ran.stderr, words)
+
+    def commands_with_seeds(self):
         given = ["--key", "key", "--given-master-seed", "master", "--given-salt"]
-        for words in (["key", "private", "-"], ["key", seeds, "-"], ["key", "private", "missing/out"],
-                      SIGN, ["sign", "private", "private", "-"], ["sign", "private", "missing", "-"],
-                      ["sign", seeds, "line", "-"], ["sign", "private", "line", "-", *given, "private"],
-                      ["sign", "private", "line", "-", *given, seeds],
-                      ["sign", "private", "line", "-", *given, "master"],
-                      ["verify", "private", "package"], ["lookup", "private", "XA", "B"], ["show", seeds],
-                      ["show", "private"], ["preview", "private"]):
-            ran = self.run_in(*words)
-            said = ran.stdout + ran.stderr
-            for seed in HIDDEN:
-                for form in (seed[:8], seed.hex().encode()[:16], seed.hex().upper().encode()[:16]):
+        return (["key", "private", "-"], ["key", "long", "-"], ["key", "private", "missing/out"],
+                SIGN, ["sign", "private", "private", "-"], ["sign", "private", "missing", "-"],
+                ["sign", "long", "line", "-"], ["sign", "private", "line", "-", *given, "private"],
+                ["sign", "private", "line", "-", *given, "long"],
+                ["sign", "private", "line", "-", *given, "master"],
+                ["verify", "private", "package"], ["verify", "key", "private"], ["lookup", "private", "XA", "B"],
+                ["show", "long"], ["show", "private"], ["show", "master"], ["preview", "private"])
+
+    def check_not_said(self, seeds, said, words):
+        for seed in seeds:
+            for at in range(0, len(seed), 8):
+                part = seed[at:at + 8]
+                for form in (part, part.hex().encode(), part.hex().upper().encode()):
                     self.assertNotIn(form, said, words)

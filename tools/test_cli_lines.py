@@ -304,7 +304,7 @@ class Explain(Case):
 
     def test_nothing_is_shown_of_a_seed(self):
         """Given for a line by mistake, as bytes or in letters, with or without a line feed."""
-        seeds = [random.Random(22).randbytes(length) for length in (16, 32, 48, 64)]
+        seeds = [random.Random(22).randbytes(length) for length in (16, 24, 32, 48, 64)]
         texts = [text for seed in seeds for text in (seed, seed.hex().encode(), base64.b64encode(seed))]
         for _, said in self.explained([text + end for text in [*texts, b"x" + b",;\t" * 3] for end in (b"", b"\n")]):
             self.assertEqual(said, ["field 1, tag, is not GP1; this does not look like a profile line"])

@@ -13,10 +13,10 @@ import subprocess
 import threading
 import time
 
-from cli_case import (ARCHIVE, FILE_TROUBLE, GIVEN, IMAGE, LINE, LINE_C, MASTER, NO_RANDOM_BYTES, PRIVATE, PROGRAM,
-                      ROOT, SALT, SELF_CHECK_FAILED, SIGNATURE, STORE, WRONG_USAGE, Case, fingerprint, line_of,
-                      sealed, shake)
-from test_cli_files import HIDDEN, NOBODY, READS_INPUT, WRITES_OUTPUT, Memory, call_of, search_traces, wait_for
+from cli_case import (ARCHIVE, CATEGORIES, FIFTH, FILE_TROUBLE, FIRST, GIVEN, IMAGE, KINDS, LINE, LINE_C,
+                      NO_RANDOM_BYTES, PRIVATE, PROGRAM, ROOT, SALT, SELF_CHECK_FAILED, SIGNATURE, STORE, WRONG_USAGE,
+                      Case, fingerprint, line_of, sealed, shake)
+from test_cli_files import HIDDEN, NOBODY, READS_INPUT, WRITES_OUTPUT, Memory, call_of, hidden, wait_for
 
 EMPTY = sealed(bytes(IMAGE))
 UNFINISHED = ".gridprofile-unfinished-"
@@ -35,7 +35,8 @@ PLANTED = r"""
 #include <string.h>
 #include <sys/stat.h>
 #include <unistd.h>
-#include "gridprofile.h"
+#include "gridprofile_category3.h"
+#include "gridprofile_category5.h"
 
 static int planted(const char *name)
 {
@@ -163,36 +164,51 @@ int __wrap_open(const char *path, int flags, ...)
     return -1;
 }
 
-uint8_t __real_gridprofile_make_key(const uint8_t *seed, size_t seed_length, uint8_t *key, size_t room);
-uint8_t __wrap_gridprofile_make_key(const uint8_t *seed, size_t seed_length, uint8_t *key, size_t room);
-uint8_t __wrap_gridprofile_make_key(const uint8_t *seed, size_t seed_length, uint8_t *key, size_t room)
+static uint8_t spoil_key(uint8_t answer)
 {
     static int turn;
-    uint8_t answer = __real_gridprofile_make_key(seed, seed_length, key, room);
     return turn++ < planted("PLANTED_SHORT_KEYS") ? GRIDPROFILE_SHORT_DRAW : answer;
 }
 
-#define ARGUMENTS const uint8_t *seed, size_t seed_length, const uint8_t *master, size_t master_length,               \
-    const uint8_t *salt, size_t salt_length, const uint8_t *line, size_t line_length, uint8_t *package, size_t room,  \
-    size_t *length
-uint8_t __real_gridprofile_make_package(ARGUMENTS);
-uint8_t __wrap_gridprofile_make_package(ARGUMENTS);
-uint8_t __wrap_gridprofile_make_package(ARGUMENTS)
+static uint8_t spoil_package(uint8_t answer, const uint8_t *seed, size_t seed_length, const uint8_t *master,
+                             size_t master_length, uint8_t *package)
 {
     static int turn;
-    uint8_t answer = __real_gridprofile_make_package(seed, seed_length, master, master_length, salt, salt_length, line,
-                                                     line_length, package, room, length);
     if (getenv("PLANTED_FAULT") != NULL)
         package[planted("PLANTED_FAULT")] ^= 4;
     if (getenv("PLANTED_LEAK") != NULL)
-        memcpy(package + planted("PLANTED_LEAK"), seed + 3, 16);
+        memcpy(package + planted("PLANTED_LEAK"), seed + seed_length - 19, 16);
     if (getenv("PLANTED_MASTER_LEAK") != NULL)
-        memcpy(package + planted("PLANTED_MASTER_LEAK"), master, 16);
+        memcpy(package + planted("PLANTED_MASTER_LEAK"), master + master_length - 16, 16);
     return turn++ < planted("PLANTED_SHORT_PACKAGES") ? GRIDPROFILE_SHORT_DRAW : answer;
 }
+
+#define KEY_ARGUMENTS const uint8_t *seed, size_t seed_length, uint8_t *key, size_t room
+#define PACKAGE_ARGUMENTS const uint8_t *seed, size_t seed_length, const uint8_t *master, size_t master_length,       \
+    const uint8_t *salt, size_t salt_length, const uint8_t *line, size_t line_length, uint8_t *package, size_t room,  \
+    size_t *length
+#define WRAP(names)                                                                                                   \
+    uint8_t __real_##names##make_key(KEY_ARGUMENTS);                                                                  \
+    uint8_t __wrap_##names##make_key(KEY_ARGUMENTS);                                                                  \
+    uint8_t __wrap_##names##make_key(KEY_ARGUMENTS)                                                                   \
+    {                                                                                                                 \
+        return spoil_key(__real_##names##make_key(seed, seed_length, key, room));                                     \
+    }                                                                                                                 \
+    uint8_t __real_##names##make_package(PACKAGE_ARGUMENTS);                                                          \
+    uint8_t __wrap_##names##make_package(PACKAGE_ARGUMENTS);                                                          \
+    uint8_t __wrap_##names##make_package(PACKAGE_ARGUMENTS)                                                           \
+    {                                                                                                                 \
+        uint8_t answer = __real_##names##make_package(seed, seed_length, master, master_length, salt, salt_length,    \
+                                                      line, line_length, package, room, length);                      \
+        return spoil_package(answer, seed, seed_length, master, master_length, package);                              \
+    }
+WRAP(gridprofile_)
+WRAP(gridprofile_category3_)
+WRAP(gridprofile_category5_)
 """
-WRAPPED = ["-Wl,--wrap=" + name for name in ("close", "flock", "fsync", "getrandom", "link", "open", "read", "rename",
-                                             "renameat2", "write", "gridprofile_make_key", "gridprofile_make_package")]
+WRAPPED = ["-Wl,--wrap=" + name for name in (
+    "close", "flock", "fsync", "getrandom", "link", "open", "read", "rename", "renameat2", "write",
+    *(f"gridprofile_{of}make_{what}" for of in ("", "category3_", "category5_") for what in ("key", "package")))]
 BUILT = []
 
 
@@ -278,48 +294,63 @@ class Drawn(Planted):
     """Seeds that the program draws, from a source that the test knows."""
 
     def test_private_seed_is_what_the_system_gave(self):
-        self.done("new-key", "private", "key")
-        self.assertEqual(self.get("private"), self.get("random")[:32])
+        for category in CATEGORIES:
+            name = f"private{category.number}"
+            self.done("new-key", name, name + ".key", *category.option())
+            self.assertEqual(self.get(name), self.get("random")[:category.seed])
 
     def test_package_is_that_of_the_drawn_seeds(self):
-        self.package()
         drawn = self.get("random")
-        self.done("sign", "private", "line", "drawn")
-        self.put("master", drawn[:16]), self.put("salt", drawn[16:48])
-        self.done("sign", "private", "line", "given", *GIVEN)
-        self.assertEqual(self.get("drawn"), self.get("given"))
-        self.assertEqual(self.get("drawn")[:32], drawn[16:48])
+        for category in CATEGORIES:
+            self.package(category=category)
+            self.done("sign", "private", "line", "drawn", "--force", *category.option())
+            self.put("master", drawn[:category.master])
+            self.put("salt", drawn[category.master:category.master + category.seed])
+            self.done("sign", "private", "line", "given", *GIVEN, "--force", *category.option())
+            self.assertEqual(self.get("drawn"), self.get("given"))
+            self.assertEqual(self.get("drawn")[:category.seed], self.get("salt"))
 
     def test_system_that_gives_too_few_bytes(self):
-        self.package()
-        for size, words in ((0, ["new-key", "a", "b"]), (31, ["new-key", "a", "b"]),
-                            (15, ["sign", "private", "line", "a"]),
-                            (47, ["sign", "private", "line", "a"])):
-            self.put("random", PRIVATE[:1] * size)
-            self.assertIn("no random bytes", self.troubled(NO_RANDOM_BYTES, *words))
+        for category in CATEGORIES:
+            self.package(category=category)
+            private, master, both = category.seed, category.master, category.master + category.seed
+            for size, words in ((0, ["new-key", "a", "b"]), (private - 1, ["new-key", "a", "b"]),
+                                (master - 1, ["sign", "private", "line", "a"]),
+                                (both - 1, ["sign", "private", "line", "a"])):
+                self.put("random", PRIVATE[:1] * size)
+                self.assertIn("no random bytes", self.troubled(NO_RANDOM_BYTES, *words, *category.option()))
 
     def test_system_that_gives_the_same_bytes(self):
-        self.package()
-        for data, told in ((bytes(48), "MASTER and SALT"), (MASTER + PRIVATE, "PRIVATE and SALT"),
-                           (PRIVATE[5:21] + SALT, "PRIVATE and MASTER")):
-            self.put("random", data)
-            self.assertIn(told + " share bytes", self.troubled(WRONG_USAGE, "sign", "private", "line", "out"))
+        for category in CATEGORIES:
+            self.package(category=category)
+            private, master, salt = category.seeds()
+            for data, told in ((bytes(category.master + category.seed), "MASTER and SALT"),
+                               (master + private, "PRIVATE and SALT"),
+                               (private[5:][:category.master] + salt, "PRIVATE and MASTER")):
+                self.put("random", data)
+                said = self.troubled(WRONG_USAGE, "sign", "private", "line", "out", *category.option())
+                self.assertIn(told + " share bytes", said)
 
     def test_short_draws_are_drawn_again(self):
         """Three in a row. Nobody has seen one, so that they are planted."""
-        self.package()
         drawn = self.get("random")
-        self.done("new-key", "fresh", "fresh.key", planted={"SHORT_KEYS": 3})
-        self.assertEqual(self.get("fresh"), drawn[3 * 32:4 * 32])
-        self.done("sign", "private", "line", "out", planted={"SHORT_PACKAGES": 3})
-        self.assertEqual(self.get("out")[:32], drawn[3 * 48 + 16:4 * 48])
+        for category in CATEGORIES:
+            self.package(category=category)
+            seed, both = category.seed, category.master + category.seed
+            name = f"fresh{category.number}"
+            self.done("new-key", name, name + ".key", *category.option(), planted={"SHORT_KEYS": 3})
+            self.assertEqual(self.get(name), drawn[3 * seed:4 * seed])
+            self.done("sign", "private", "line", "out", "--force", *category.option(), planted={"SHORT_PACKAGES": 3})
+            self.assertEqual(self.get("out")[:seed], drawn[3 * both + category.master:4 * both])
 
     def test_short_draws_without_end_are_2(self):
-        self.package()
-        self.refused(2, "new-key", "fresh", "fresh.key", planted={"SHORT_KEYS": 4})
-        self.refused(2, "sign", "private", "line", "out", planted={"SHORT_PACKAGES": 4})
-        self.refused(2, "key", "private", "out", planted={"SHORT_KEYS": 1})
-        self.refused(2, "sign", "private", "line", "out", *GIVEN, planted={"SHORT_PACKAGES": 1})
+        for category in CATEGORIES:
+            self.package(category=category)
+            for words, planted in ((["new-key", "fresh", "fresh.key"], {"SHORT_KEYS": 4}),
+                                   (["sign", "private", "line", "out"], {"SHORT_PACKAGES": 4}),
+                                   (["key", "private", "out"], {"SHORT_KEYS": 1}),
+                                   (["sign", "private", "line", "out", *GIVEN], {"SHORT_PACKAGES": 1})):
+                self.refused(2, *words, *category.option(), planted=planted)
 
     def test_two_signatures_of_a_line_differ(self):
         self.package()
@@ -334,20 +365,25 @@ class Drawn(Planted):
 
 class Faults(Planted):
     def test_package_that_does_not_verify_is_not_written(self):
-        self.package()
-        for at in (0, 31, 32, 95, 96, 500, 9000, SIGNATURE - 1, SIGNATURE + 9):
-            for options in ((), GIVEN):
-                said = self.troubled(SELF_CHECK_FAILED, "sign", "private", "line", "out", *options,
-                                     planted={"FAULT": at})
-                self.assertIn("does not verify", said)
-            self.assertEqual(self.run_in("sign", "private", "line", "-", planted={"FAULT": at}).stdout, b"")
+        for category in CATEGORIES:
+            self.package(category=category)
+            seed, end = category.seed, category.signature
+            for at in (0, seed - 1, seed, 3 * seed - 1, 3 * seed, 500, 9000, end - 1, end + 9):
+                for options in ((), GIVEN):
+                    said = self.troubled(SELF_CHECK_FAILED, "sign", "private", "line", "out", *options,
+                                         *category.option(), planted={"FAULT": at})
+                    self.assertIn("does not verify", said)
+            ran = self.run_in("sign", "private", "line", "-", *category.option(), planted={"FAULT": 500})
+            self.assertEqual((ran.returncode, ran.stdout), (SELF_CHECK_FAILED, b""))
 
     def test_package_with_a_seed_in_it_is_not_written(self):
-        self.package()
-        for at in (0, 16, 32, 5000, SIGNATURE - 16):
-            for leak in ("LEAK", "MASTER_LEAK"):
-                said = self.troubled(WRONG_USAGE, "sign", "private", "line", "out", planted={leak: at})
-                self.assertIn("the bytes of a seed would stand in the package", said)
+        for category in CATEGORIES:
+            self.package(category=category)
+            for at in (0, 16, category.seed, 5000, category.signature - 16):
+                for leak in ("LEAK", "MASTER_LEAK"):
+                    said = self.troubled(WRONG_USAGE, "sign", "private", "line", "out", *category.option(),
+                                         planted={leak: at})
+                    self.assertIn("the bytes of a seed would stand in the package", said)
 
     def test_what_a_killed_run_left_is_removed_by_the_next(self):
         self.package()
@@ -468,14 +504,14 @@ class Faults(Planted):
 
 class DrawnSecrets(Planted, Memory):
     def test_drawn_seeds_are_wiped_before_the_output(self):
-        self.key(HIDDEN[0]), self.put("line", LINE)
-        self.put("random", HIDDEN[1] + SALT)
-        self.start("sign", "private", "line", "-", env={**os.environ, "PLANTED_RANDOM": self.path("random")})
-        after = self.memory_at(WRITES_OUTPUT)
-        package = self.written()
-        self.assertIn(package, after)
-        secrets = self.key_secrets() + self.round_secrets(package) + search_traces(HIDDEN[1])
-        self.assertEqual([secret.hex() for secret in secrets if secret in after], [])
+        for category in CATEGORIES:
+            private, master = hidden(category)
+            self.key(private, category=category), self.put("line", LINE)
+            self.put("random", master + category.seeds()[2])
+            self.start("sign", "private", "line", "-", *category.option(),
+                       env={**os.environ, "PLANTED_RANDOM": self.path("random")})
+            after = self.memory_at(WRITES_OUTPUT)
+            self.check_signed(category, self.written(), after)
 
 
 class Exchanged(Case):
@@ -513,6 +549,21 @@ class Exchanged(Case):
         self.put("near", SALT[:7] + PRIVATE[9:24] + SALT[:10])
         self.done(*self.sign(salt="near"))
 
+    def test_seeds_that_share_their_last_bytes_at_each_category(self):
+        """16 in a row, at the end of each, where a longer seed has bytes that category 1 has not; 15 are taken."""
+        for category in CATEGORIES:
+            self.package(category=category)
+            private, master, salt = category.seeds()
+            for name, data, shared in (("master", bytes(len(master) - 16) + private[-16:], "PRIVATE and MASTER"),
+                                       ("master", bytes(len(master) - 16) + salt[-16:], "MASTER and SALT"),
+                                       ("salt", salt[:-16] + private[-16:], "PRIVATE and SALT"),
+                                       ("salt", salt[:-16] + master[-16:], "MASTER and SALT")):
+                said = self.troubled(WRONG_USAGE, *self.sign(**{name: self.put("mixed", data)}), *category.option())
+                self.assertIn(shared + " share bytes", said)
+            self.put("near", salt[:-15] + private[-15:])
+            self.done(*self.sign(salt="near"), *category.option())
+            os.remove(self.path("out"))
+
     def test_given_seeds_come_with_one_another_and_the_key(self):
         self.package()
         whole = self.sign()
@@ -524,31 +575,44 @@ class Exchanged(Case):
         self.package(), self.put("own", self.get("key"))
         self.key(bytes(32), "other"), self.put("private", PRIVATE)
         self.assertIn("KEY is not", self.troubled(WRONG_USAGE, "sign", "private", "line", "out", "--key", "other"))
-        for at in (0, 31, 32, 76):
-            key = self.get("own")
-            self.put("near", key[:at] + bytes([key[at] ^ 1]) + key[at + 1:])
-            self.assertIn("KEY is not", self.troubled(WRONG_USAGE, "sign", "private", "line", "out", "--key", "near"))
         self.done("sign", "private", "line", "out", "--key", "own")
+
+    def test_each_byte_of_the_named_key_counts(self):
+        for category in CATEGORIES:
+            key = self.get(self.key(category=category))
+            self.put("line", LINE)
+            for at in (0, category.seed - 1, category.seed, category.key - 1):
+                self.put("near", key[:at] + bytes([key[at] ^ 1]) + key[at + 1:])
+                words = "sign", "private", "line", "out", "--key", "near", *category.option()
+                self.assertIn("KEY is not the public key of PRIVATE", self.troubled(WRONG_USAGE, *words))
 
     def test_any_order_of_arguments_spares_seeds_keys_and_stores(self):
         """Every command with every choice of files: no seed, key or store is lost, and no seed stands elsewhere."""
         self.package(private=HIDDEN[0], master=HIDDEN[1]), self.put("store", EMPTY)
+        self.try_every_order((("sign", 3), ("key", 2), ("new-key", 2), ("new-store", 1)), ((), ("--force",)))
+
+    def test_any_order_of_arguments_at_category_5(self):
+        """Where a seed may also have the size of a line; --force asks for the most."""
+        self.package(category=FIFTH), self.put("store", EMPTY), self.put("line", line_of(serial=1234567890))
+        self.assertEqual(len(self.get("line")), FIFTH.seed)
+        self.try_every_order((("sign", 3), ("key", 2), ("new-key", 2)), (("--force", *FIFTH.option()),))
+
+    def try_every_order(self, commands, choices):
         kept = {name: self.get(name) for name in ("private", "master", "salt", "key", "store", "line", "package")}
-        names = [*kept, "out"]
-        for command, count in (("sign", 3), ("key", 2), ("new-key", 2), ("new-store", 1)):
-            for words in itertools.product(names, repeat=count):
-                for options in ((), ("--force",)):
+        for command, count in commands:
+            for words in itertools.product([*kept, "out"], repeat=count):
+                for options in choices:
                     self.run_in(command, *words, *options)
                     self.check_kept(kept, (command, *words, *options))
 
     def check_kept(self, kept, words):
         """What was there is there, but for what --force asks for; each file is then put back."""
         same_kind = {"key": "key", "new-key": "key", "new-store": "store"}.get(words[0])
+        private = kept["private"]
         for name in self.names():
             data = self.get(name)
             if name != "private":
-                self.assertNotIn(HIDDEN[0][:16], data, words)
-                self.assertNotIn(HIDDEN[0][16:], data, words)
+                self.assertEqual([at for at in range(0, len(private), 16) if private[at:at + 16] in data], [], words)
             if name not in kept:
                 os.remove(self.path(name))
             elif data != kept[name]:
@@ -559,10 +623,11 @@ class Exchanged(Case):
 
 
 class Existing(Case):
-    def writers(self):
-        self.package()
-        return {"key": ["key", "private", "out"], "package": ["sign", "private", "line", "out"],
-                "store": ["new-store", "out"], "new key": ["new-key", "fresh", "out"]}
+    def writers(self, category=FIRST):
+        self.package(category=category)
+        option = category.option()
+        return {"key": ["key", "private", "out", *option], "package": ["sign", "private", "line", "out", *option],
+                "store": ["new-store", "out"], "new key": ["new-key", "fresh", "out", *option]}
 
     def test_existing_output_is_replaced_only_when_asked(self):
         for words in self.writers().values():
@@ -577,18 +642,21 @@ class Existing(Case):
             os.remove(self.path(name))
 
     def test_seeds_keys_and_stores_are_never_replaced_by_something_else(self):
-        sizes = {16: "a master seed", 32: "a private seed", 77: "a public key", 1056: "a store", 1024: "a store"}
-        own = {"key": (77,), "new key": (77,), "package": (), "store": (1024, 1056)}
-        for kind, words in self.writers().items():
-            for size, name in sizes.items():
-                self.put("out", bytes(size))
-                if size in own[kind]:
-                    self.done(*words, "--force")
-                    self.assertNotEqual(self.get("out"), bytes(size))
-                    self.drop("fresh")
-                else:
-                    said = self.troubled(FILE_TROUBLE, *words, "--force")
-                    self.assertIn(f"it exists and has the size of {name}", said)
+        """Those of every category, whichever is asked for; a line may have the size of a seed."""
+        own = {"key": (77, 115, 153), "new key": (77, 115, 153), "package": (), "store": (1024, 1056)}
+        for category in CATEGORIES:
+            for kind, words in self.writers(category).items():
+                for size in (16, 24, 32, 48, 64, 77, 115, 153, 1024, 1056):
+                    self.put("out", line_of(serial=1234567890) if size == 64 else bytes(size))
+                    if size in own[kind]:
+                        self.done(*words, "--force")
+                        self.assertNotEqual(self.get("out"), bytes(size))
+                        self.drop("fresh")
+                    else:
+                        said = self.troubled(FILE_TROUBLE, *words, "--force")
+                        self.assertEqual(said, f"gridprofile: cannot write out: it exists and has the size of "
+                                         f"{KINDS[size]}, which nothing else replaces; choose another name, or remove "
+                                         "it first\n")
 
     def test_file_that_comes_meanwhile_is_not_replaced(self):
         """The line comes by a pipe, so that the program waits for it after it has found its output."""
@@ -675,7 +743,7 @@ class Terminal(Case):
         for words in (["verify", "key", b"no" + self.NAME], ["verify", "key", self.NAME], ["show", self.NAME],
                       ["key", self.NAME, "out"], ["key", "private", self.NAME], ["key", self.NAME, self.NAME],
                       ["key", b"-" + self.NAME], [self.NAME], ["help", self.NAME],
-                      ["new-store", "new", "--wait", self.NAME],
+                      ["new-store", "new", "--wait", self.NAME], ["key", "private", "new", "--category", self.NAME],
                       ["sign", "private", "line", "new", "--key", self.NAME]):
             said = self.run_in(*words).stderr
             self.assertIn(self.SHOWN, said, words)
@@ -689,8 +757,8 @@ class Terminal(Case):
         with reading, writing:
             self.run_in("show", self.put("private", PRIVATE), stderr=writing)
             reading.setblocking(False)
-            self.assertEqual(reading.recv(1000), b"gridprofile show: refused with 1: private has the size of a private "
-                                                 b"seed or a salt, of which nothing is shown\n")
+            self.assertEqual(reading.recv(1000).decode(), "gridprofile show: refused with 1: private has the size of "
+                             f"{KINDS[32]}, of which nothing is shown\n")
 
 
 class Locks(Case):
@@ -844,17 +912,19 @@ class Locks(Case):
 
 class SmallStack(Case):
     def test_every_command(self):
-        self.package(), self.store()
-        for kilobytes in (200, 64):
-            size = kilobytes * 1024
-            small = {"preexec_fn": lambda limit=size: resource.setrlimit(resource.RLIMIT_STACK, (limit, limit))}
-            name = f"at{kilobytes}-"
-            self.done("new-key", name + "private", name + "key", **small)
-            self.done("key", "private", name + "same", **small)
-            self.done("sign", "private", "line", name + "package", **small)
-            self.done("verify", "key", name + "package", **small)
+        """The environment would stand on the stack too."""
+        for category, kilobytes in itertools.product(CATEGORIES, (200, 64)):
+            self.package(category=category)
+            size, option = kilobytes * 1024, category.option()
+            small = {"preexec_fn": lambda limit=size: resource.setrlimit(resource.RLIMIT_STACK, (limit, limit)),
+                     "env": {}}
+            name = f"at{category.number}-{kilobytes}-"
+            self.done("new-key", name + "private", name + "key", *option, **small)
+            self.done("key", "private", name + "same", *option, **small)
+            self.done("sign", "private", "line", name + "package", *option, **small)
+            self.done("verify", "key", name + "package", *option, **small)
             self.done("new-store", name + "store", **small)
-            self.done("load", name + "store", "key", name + "package", "XA", "B", **small)
+            self.done("load", name + "store", "key", name + "package", "XA", "B", *option, **small)
             self.assertEqual(self.done("lookup", name + "store", "XA", "B", **small), LINE)
             self.done("show", name + "store", **small)
             self.assertIn(b"XA,B,12", self.done("preview", "line", **small))

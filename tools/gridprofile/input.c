@@ -12,21 +12,22 @@ int is_stream(const char *path)
     return strcmp(path, "-") == 0;
 }
 
-/* A file of one size alone; `bytes` has one more. */
-struct input exact_input(const char *role, const char *path, uint8_t *bytes, size_t size)
+/* The room is more than the greatest size of any category, so that a file of another one is told, also
+ * from a stream. */
+struct input sized_input(const struct category *category, enum sized sized, const char *path,
+                         uint8_t *bytes, size_t room)
 {
-    struct input input = {.role = role, .path = path, .bytes = bytes, .room = size + 1};
-    input.least = input.most = size;
-    return input;
-}
-
-/* `bytes` has one more than the longest. */
-struct input package_input(const char *path, uint8_t *bytes)
-{
-    struct input input = {.role = "PACKAGE", .path = path, .bytes = bytes};
-    input.least = GRIDPROFILE_PACKAGE_MIN_BYTES;
-    input.most = GRIDPROFILE_PACKAGE_MAX_BYTES;
-    input.room = input.most + 1;
+    static const char *const roles[] = {
+        [PRIVATE_SIZE] = "PRIVATE", [MASTER_SIZE] = "MASTER",   [SALT_SIZE] = "SALT",
+        [KEY_SIZE] = "KEY",         [PACKAGE_SIZE] = "PACKAGE",
+    };
+    struct span span = span_of(category, sized);
+    struct input input = {.role = roles[sized], .path = path, .bytes = bytes, .room = room};
+    input.category = category;
+    input.sized = sized;
+    input.least = span.least;
+    input.most = span.most;
+    input.secret = sized == PRIVATE_SIZE || sized == MASTER_SIZE;
     return input;
 }
 
@@ -56,6 +57,7 @@ static void look_at(struct input *input, int file)
 {
     struct stat found;
     input->size = input->length;
+    input->begins_as_line = input->length >= 4 && memcmp(input->bytes, "GP1,", 4) == 0;
     if (fstat(file, &found) != 0 || !S_ISREG(found.st_mode))
         return;
     if (found.st_size > 0 && (size_t)found.st_size > input->size)
@@ -102,4 +104,26 @@ int read_inputs(struct input *inputs, size_t count)
     for (size_t at = 0; at < count && status == 0; at++)
         status = read_input(&inputs[at]);
     return status;
+}
+
+/* A whole profile line: no seed is one by chance. What may be a seed is not read as a line, since that
+ * would leave traces of it on the stack. */
+static int is_profile(const struct input *input)
+{
+    uint8_t image[GRIDPROFILE_PROFILE_IMAGE_BYTES];
+    return input->begins_as_line &&
+           gridprofile_read_line(input->bytes, input->length, image, sizeof image) == 0;
+}
+
+int spare_lines(const struct request *request, const struct input *inputs, size_t count)
+{
+    char what[80];
+    for (size_t at = 0; at < count; at++) {
+        if (inputs[at].category == NULL || !is_size_taken(&inputs[at]) || !is_profile(&inputs[at]))
+            continue;
+        (void)snprintf(what, sizeof what, "%s is a profile line, which everybody may know",
+                       inputs[at].role);
+        return misused(request->command, what, "see whether files are exchanged");
+    }
+    return 0;
 }

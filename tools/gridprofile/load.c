@@ -37,7 +37,7 @@ static size_t changed_slot(const uint8_t *before)
     return at;
 }
 
-static void print_accepted(FILE *to, const uint8_t *before, const uint8_t *key)
+static void print_accepted(FILE *to, const uint8_t *before, const struct input *key)
 {
     size_t slot = changed_slot(before);
     fputs("Accepted: ", to);
@@ -48,7 +48,7 @@ static void print_accepted(FILE *to, const uint8_t *before, const uint8_t *key)
         fprintf(to, "It replaces serial %" PRIu32 ".\n", serial_of(before + slot));
     else
         fputs("Nothing was stored for this country and class before.\n", to);
-    print_fingerprint(to, key);
+    print_fingerprint(to, key->category, key->bytes);
 }
 
 /* The serial of a line, or 0, which none has. */
@@ -70,9 +70,9 @@ static uint32_t stored_serial(const struct request *request)
 
 static int refuse_serial(const struct request *request, const struct input *package)
 {
+    size_t signature = package->category->signature;
     uint32_t stored = stored_serial(request);
-    uint32_t serial = serial_of_line(package->bytes + GRIDPROFILE_SIGNATURE_BYTES,
-                                     package->length - GRIDPROFILE_SIGNATURE_BYTES);
+    uint32_t serial = serial_of_line(package->bytes + signature, package->length - signature);
     char meaning[96];
     (void)snprintf(meaning, sizeof meaning,
                    "the serial, %" PRIu32 ", is not greater than the stored one, %" PRIu32, serial,
@@ -99,7 +99,7 @@ static int read_store(struct output *output, struct input *read)
     return status;
 }
 
-static int write_store(struct output *output, const uint8_t *before, const uint8_t *key)
+static int write_store(struct output *output, const uint8_t *before, const struct input *key)
 {
     int status;
     seal_store(store);
@@ -111,13 +111,14 @@ static int write_store(struct output *output, const uint8_t *before, const uint8
 
 int run_load(const struct request *request)
 {
-    static uint8_t key[GRIDPROFILE_KEY_BYTES + 1], package[GRIDPROFILE_PACKAGE_MAX_BYTES + 1];
+    static uint8_t key[MOST_KEY_BYTES + 1], package[MOST_PACKAGE_BYTES + 1];
     static uint8_t before[GRIDPROFILE_STORE_IMAGE_BYTES];
     static struct output output;
+    const struct category *category = request->category;
     struct input inputs[] = {
         store_input(request->arguments[0], store),
-        exact_input("KEY", request->arguments[1], key, GRIDPROFILE_KEY_BYTES),
-        package_input(request->arguments[2], package),
+        sized_input(category, KEY_SIZE, request->arguments[1], key, sizeof key),
+        sized_input(category, PACKAGE_SIZE, request->arguments[2], package, sizeof package),
     };
     const char *country = request->arguments[3];
     int status = check_streams(request, inputs, COUNT(inputs)), answer;
@@ -130,14 +131,14 @@ int run_load(const struct request *request)
     if (status != 0)
         return status;
     memcpy(before, store, sizeof before);
-    answer = gridprofile_load(store, inputs[0].length, key, inputs[1].length, package,
-                              inputs[2].length, (const uint8_t *)country, strlen(country),
-                              class_number(request->arguments[4]));
+    answer = category->load(store, inputs[0].length, key, inputs[1].length, package,
+                            inputs[2].length, (const uint8_t *)country, strlen(country),
+                            class_number(request->arguments[4]));
     if (answer == GRIDPROFILE_OLD_SERIAL)
         return refuse_serial(request, &inputs[2]);
     if (answer != 0)
         return refused_package(request->command, answer, inputs, COUNT(inputs), &inputs[2]);
-    return write_store(&output, before, key);
+    return write_store(&output, before, &inputs[1]);
 }
 
 int run_lookup(const struct request *request)

@@ -20,6 +20,12 @@ static const char **value_of(struct request *request, const char *option)
     return strcmp(option, "--key") == 0 ? &request->key : NULL;
 }
 
+/* A value that is empty must be seen in a message. */
+static const char *shown(const char *value)
+{
+    return *value != '\0' ? value : "\"\"";
+}
+
 /* A number that is too great for the type is read as the greatest. */
 static int read_wait(struct request *request, const char *text)
 {
@@ -27,14 +33,26 @@ static int read_wait(struct request *request, const char *text)
     unsigned long seconds = strtoul(text, NULL, 10);
     if (digits == 0 || text[digits] != '\0' || seconds > MOST_WAIT_SECONDS)
         return wrong_usage(request->command, "--wait takes a number of seconds up to 86400, not ",
-                           text);
+                           shown(text));
     request->wait = (unsigned)seconds;
+    return 0;
+}
+
+static int read_category(struct request *request, const char *text)
+{
+    if (request->category != NULL)
+        return wrong_usage(request->command, "given twice: ", "--category");
+    request->category = category_named(text);
+    if (request->category == NULL)
+        return wrong_usage(request->command, "--category takes 1, 3 or 5, not ", shown(text));
     return 0;
 }
 
 static int read_value(struct request *request, const char *option, const char *value)
 {
     const char **place = value_of(request, option);
+    if (strcmp(option, "--category") == 0)
+        return read_category(request, value);
     if (place == NULL)
         return read_wait(request, value);
     if (*place != NULL)
@@ -72,7 +90,8 @@ int is_help(const char *word)
 static int has_value(const char *word)
 {
     static struct request any;
-    return value_of(&any, word) != NULL || strcmp(word, "--wait") == 0;
+    return value_of(&any, word) != NULL || strcmp(word, "--wait") == 0 ||
+           strcmp(word, "--category") == 0;
 }
 
 /* Up to a word `--`, after which every word is an argument; the value of an option is none either. */
@@ -104,5 +123,7 @@ int read_request(struct request *request, char **words)
         else
             status = wrong_usage(request->command, "too many arguments", "");
     }
+    if (request->category == NULL)
+        request->category = &categories[0];
     return status;
 }

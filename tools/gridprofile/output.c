@@ -81,12 +81,12 @@ static int find_missing(struct output *output)
     return find_new(output);
 }
 
-/* A seed is never replaced. Nor is a key or a store by something else: that is a slip in the order
- * of the arguments, and --force was not meant for it. */
+/* A seed is never replaced, of whatever category it is. Nor is a key or a store by something else: that
+ * is a slip in the order of the arguments, and --force was not meant for it. */
 static int spare_old(const struct output *output, size_t size)
 {
     enum kind old = kind_of(size);
-    char why[160];
+    char why[256];
     if (output->kind == SEED)
         return file_trouble("write", output->path,
                             "it exists, and a private seed is written over no file; choose another "

@@ -10,6 +10,8 @@
 #include <sys/types.h>
 
 #include "gridprofile.h"
+#include "gridprofile_category3.h"
+#include "gridprofile_category5.h"
 
 /* Exit statuses besides 0 and the library's refusals, with the numbers of sysexits.h. */
 #define WRONG_USAGE 64
@@ -20,15 +22,53 @@
 
 #define COUNT(array) (sizeof(array) / sizeof *(array))
 
-/* kinds.c: what a file of this many bytes looks like, and its name for people ("a public key"). */
+/* categories.c: what the category decides: sizes in bytes, and functions of the library, which have the
+ * arguments of category 1's. `category_named` finds one by its number on the command line, `category_of`
+ * the one whose files of this sort have this size; both answer NULL where there is none. */
+struct category {
+    unsigned number;
+    size_t private_seed, master_seed, salt, key, signature;
+    size_t least_package, most_package;
+    __typeof__(gridprofile_shake128) *hash;
+    __typeof__(gridprofile_make_key) *make_key;
+    __typeof__(gridprofile_make_package) *make_package;
+    __typeof__(gridprofile_verify) *verify;
+    __typeof__(gridprofile_load) *load;
+};
+enum { CATEGORIES = 3 };
+extern const struct category categories[CATEGORIES];
+const struct category *category_named(const char *text);
+
+/* The files whose size the category decides, and the lengths that one may have. */
+enum sized { PRIVATE_SIZE, MASTER_SIZE, SALT_SIZE, KEY_SIZE, PACKAGE_SIZE };
+struct span {
+    size_t least, most;
+};
+struct span span_of(const struct category *category, enum sized sized);
+const struct category *category_of(enum sized sized, size_t size);
+
+/* The greatest sizes, those of category 5: a buffer is for every category. */
+#define MOST_PRIVATE_SEED_BYTES GRIDPROFILE_CATEGORY5_PRIVATE_SEED_BYTES
+#define MOST_MASTER_SEED_BYTES GRIDPROFILE_CATEGORY5_MASTER_SEED_BYTES
+#define MOST_SALT_BYTES GRIDPROFILE_CATEGORY5_SALT_BYTES
+#define MOST_KEY_BYTES GRIDPROFILE_CATEGORY5_KEY_BYTES
+#define MOST_PACKAGE_BYTES GRIDPROFILE_CATEGORY5_PACKAGE_MAX_BYTES
+
+/* kinds.c: what a file of this many bytes looks like, and its names for people ("a public key of category
+ * 3"). An input is a line where it begins as one and has the size of one, and else its size tells. */
 enum kind { NO_KIND, SEED, KEY, STORE, PACKAGE, LINE };
+struct input;
 enum kind kind_of(size_t size);
 const char *kind_name(size_t size);
+int has_line_size(size_t size);
+int is_line_input(const struct input *input);
+const char *input_kind(const struct input *input);
 
 /* What is asked for. */
 struct request {
     const char *command;
     char *arguments[8]; /* in the number that the command takes, and NULL after the last */
+    const struct category *category;
     int force;          /* replace an output that exists */
     const char *given_master, *given_salt, *key; /* files, or NULL */
     unsigned wait;      /* seconds, for a lock that somebody else holds */
@@ -40,6 +80,8 @@ struct input {
     const char *role;   /* as the usage text names it */
     const char *path;   /* "-" is standard input */
     const char *target; /* what is opened in its place, or NULL */
+    const struct category *category; /* that decides its size, or NULL */
+    enum sized sized;   /* what it is then */
     uint8_t *bytes;
     size_t room;        /* how much is read at most, more than `most` and `also` */
     size_t least, most; /* the lengths that are taken */
@@ -48,6 +90,7 @@ struct input {
     size_t length;      /* what was read */
     size_t size;        /* what the file has, where that can be told, else what was read */
     int closed;         /* nobody but its owner can read it, as with a seed */
+    int begins_as_line; /* with GP1 and a comma: told before a seed is wiped */
 };
 
 /* A file that a command writes. */
@@ -72,12 +115,14 @@ int read_request(struct request *request, char **words);
 int is_help(const char *word);
 int asks_help(char **words);
 
-/* input.c: each answers 0, or the exit status after saying on standard error what is wrong. */
+/* input.c: each answers 0, or the exit status after saying on standard error what is wrong. `spare_lines`
+ * takes no line for a seed, although it may have the size of one. */
 int is_stream(const char *path);
-struct input exact_input(const char *role, const char *path, uint8_t *bytes, size_t size);
-struct input package_input(const char *path, uint8_t *bytes);
+struct input sized_input(const struct category *category, enum sized sized, const char *path,
+                         uint8_t *bytes, size_t room);
 int check_streams(const struct request *request, const struct input *inputs, size_t count);
 int read_inputs(struct input *inputs, size_t count);
+int spare_lines(const struct request *request, const struct input *inputs, size_t count);
 int is_size_taken(const struct input *input);
 const char *input_name(const struct input *input);
 
@@ -140,7 +185,7 @@ void print_device(FILE *to, const uint8_t *image);
 int print_profile(const uint8_t *image);
 
 /* fingerprint.c: the name of a public key. */
-void print_fingerprint(FILE *to, const uint8_t *key);
+void print_fingerprint(FILE *to, const struct category *category, const uint8_t *key);
 
 /* store_file.c: a store's image with its checksum behind it. `open_store` looks at what was read and
  * sets the length to the image's where there is one, `check_slots` at what the image holds; each
@@ -153,7 +198,8 @@ void seal_store(uint8_t *bytes);
 int check_slots(const struct input *store);
 
 /* verify.c: the loader's answers 1 to 5, in its order, for any device and any store. */
-int verify_package(const uint8_t *key, size_t key_length, const uint8_t *package, size_t length);
+int verify_package(const struct category *category, const uint8_t *key, size_t key_length,
+                   const uint8_t *package, size_t length);
 
 /* usage.c */
 int takes_option(const char *command, const char *option);

@@ -9,9 +9,9 @@
 #include <sys/resource.h>
 #include <ucontext.h>
 
-/* More than any function of the library uses: signing, the greatest, takes under 96 KiB, which
- * `make bench` measures. */
-#define STACK_BYTES (256 * 1024)
+/* More than any function of the library uses: signing at category 5, the greatest, takes some 250 KB,
+ * which `make bench` measures. */
+#define STACK_BYTES (512 * 1024)
 
 /* So many bytes in a row are not equal by chance. */
 #define TELLING_BYTES 16

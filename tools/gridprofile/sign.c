@@ -1,4 +1,4 @@
-/* gridprofile sign PRIVATE LINE PACKAGE [--key KEY]
+/* gridprofile sign PRIVATE LINE PACKAGE [--category 1|3|5] [--key KEY]
  *     [--given-master-seed MASTER --given-salt SALT] */
 #include "program.h"
 
@@ -7,12 +7,13 @@
 /* More than a line has, so that what is wrong with a longer one can be told. */
 enum { LINE_ROOM = 1024 };
 
-static uint8_t private_seed[GRIDPROFILE_PRIVATE_SEED_BYTES + 1];
-static uint8_t master_seed[GRIDPROFILE_MASTER_SEED_BYTES + 1];
-static uint8_t salt[GRIDPROFILE_SALT_BYTES + 1];
+static const struct category *category;
+static uint8_t private_seed[MOST_PRIVATE_SEED_BYTES + 1];
+static uint8_t master_seed[MOST_MASTER_SEED_BYTES + 1];
+static uint8_t salt[MOST_SALT_BYTES + 1];
 static uint8_t line[LINE_ROOM];
-static uint8_t given_key[GRIDPROFILE_KEY_BYTES + 1];
-static uint8_t key[GRIDPROFILE_KEY_BYTES], package[GRIDPROFILE_PACKAGE_MAX_BYTES];
+static uint8_t given_key[MOST_KEY_BYTES + 1];
+static uint8_t key[MOST_KEY_BYTES], package[MOST_PACKAGE_BYTES];
 static size_t package_length;
 
 /* In this order: the key where it is given, and the last two where seeds are. */
@@ -29,35 +30,34 @@ static void list_inputs(const struct request *request)
     line_file.room = sizeof line;
     line_file.least = GRIDPROFILE_LINE_MIN_BYTES;
     line_file.most = GRIDPROFILE_LINE_MAX_BYTES;
-    inputs[PRIVATE] = exact_input("PRIVATE", request->arguments[0], private_seed,
-                                  GRIDPROFILE_PRIVATE_SEED_BYTES);
+    inputs[PRIVATE] = sized_input(category, PRIVATE_SIZE, request->arguments[0], private_seed,
+                                  sizeof private_seed);
     inputs[LINE_FILE] = line_file;
-    inputs[KEY_FILE] = exact_input("KEY", request->key, given_key, GRIDPROFILE_KEY_BYTES);
-    inputs[MASTER] =
-        exact_input("MASTER", request->given_master, master_seed, GRIDPROFILE_MASTER_SEED_BYTES);
-    inputs[SALT] = exact_input("SALT", request->given_salt, salt, GRIDPROFILE_SALT_BYTES);
-    inputs[PRIVATE].secret = inputs[MASTER].secret = 1;
+    inputs[KEY_FILE] = sized_input(category, KEY_SIZE, request->key, given_key, sizeof given_key);
+    inputs[MASTER] = sized_input(category, MASTER_SIZE, request->given_master, master_seed,
+                                 sizeof master_seed);
+    inputs[SALT] = sized_input(category, SALT_SIZE, request->given_salt, salt, sizeof salt);
     input_count = request->given_master != NULL ? INPUTS : request->key != NULL ? MASTER : KEY_FILE;
 }
 
 static void sign(void)
 {
-    answer = gridprofile_make_package(private_seed, inputs[PRIVATE].length, master_seed,
-                                      inputs[MASTER].length, salt, inputs[SALT].length, line,
-                                      inputs[LINE_FILE].length, package, sizeof package,
-                                      &package_length);
+    answer = category->make_package(private_seed, inputs[PRIVATE].length, master_seed,
+                                    inputs[MASTER].length, salt, inputs[SALT].length, line,
+                                    inputs[LINE_FILE].length, package, category->most_package,
+                                    &package_length);
 }
 
 static int sign_drawn(void)
 {
     int status = 0;
-    inputs[MASTER].length = GRIDPROFILE_MASTER_SEED_BYTES;
-    inputs[SALT].length = GRIDPROFILE_SALT_BYTES;
+    inputs[MASTER].length = category->master_seed;
+    inputs[SALT].length = category->salt;
     answer = GRIDPROFILE_SHORT_DRAW;
     for (int left = TRIES; left > 0 && status == 0 && answer == GRIDPROFILE_SHORT_DRAW; left--) {
-        status = draw(master_seed, GRIDPROFILE_MASTER_SEED_BYTES);
+        status = draw(master_seed, category->master_seed);
         if (status == 0)
-            status = draw(salt, GRIDPROFILE_SALT_BYTES);
+            status = draw(salt, category->salt);
         if (status == 0)
             run_apart(sign);
     }
@@ -67,14 +67,15 @@ static int sign_drawn(void)
 /* The salt opens the signature, so that a seed which is also the salt would be given away. */
 static const char *reused_seed(void)
 {
-    if (share_bytes(private_seed, sizeof private_seed - 1, salt, sizeof salt - 1))
+    size_t private_length = category->private_seed, master_length = category->master_seed;
+    if (share_bytes(private_seed, private_length, salt, category->salt))
         return "PRIVATE and SALT share bytes, and the salt is public";
-    if (share_bytes(master_seed, sizeof master_seed - 1, salt, sizeof salt - 1))
+    if (share_bytes(master_seed, master_length, salt, category->salt))
         return "MASTER and SALT share bytes, and the salt is public";
-    if (share_bytes(master_seed, sizeof master_seed - 1, private_seed, sizeof private_seed - 1))
+    if (share_bytes(master_seed, master_length, private_seed, private_length))
         return "PRIVATE and MASTER share bytes; each seed is drawn for itself";
-    if (share_bytes(private_seed, sizeof private_seed - 1, package, package_length) ||
-        share_bytes(master_seed, sizeof master_seed - 1, package, package_length))
+    if (share_bytes(private_seed, private_length, package, package_length) ||
+        share_bytes(master_seed, master_length, package, package_length))
         return "the bytes of a seed would stand in the package";
     return NULL;
 }
@@ -84,9 +85,9 @@ static const char *reused_seed(void)
 static void check_own(void)
 {
     reused = reused_seed();
-    own_answer = gridprofile_make_key(private_seed, inputs[PRIVATE].length, key, sizeof key);
+    own_answer = category->make_key(private_seed, inputs[PRIVATE].length, key, category->key);
     if (own_answer == 0)
-        own_answer = verify_package(key, sizeof key, package, package_length);
+        own_answer = verify_package(category, key, category->key, package, package_length);
 }
 
 /* Says what is wrong with the line too, where that was refused. */
@@ -112,7 +113,7 @@ static int judge(const struct request *request)
 {
     if (answer != 0)
         return refuse(request);
-    if (request->key != NULL && memcmp(key, given_key, sizeof key) != 0)
+    if (request->key != NULL && memcmp(key, given_key, category->key) != 0)
         return misused(request->command, "KEY is not the public key of PRIVATE",
                        "see whether files are exchanged; `gridprofile key` makes the key of a seed");
     if (reused != NULL)
@@ -168,7 +169,7 @@ static int report(struct output *output)
         warn(input_name(&inputs[LINE_FILE]), unreplaceable);
     fputs("Signed and verified: ", report_of(output));
     print_device(report_of(output), profile);
-    print_fingerprint(report_of(output), key);
+    print_fingerprint(report_of(output), category, key);
     return 0;
 }
 
@@ -178,8 +179,11 @@ int run_sign(const struct request *request)
     int status = check_given(request);
     if (status != 0)
         return status;
+    category = request->category;
     list_inputs(request);
     status = prepare(&output, request, request->arguments[2], PACKAGE, inputs, input_count);
+    if (status == 0)
+        status = spare_lines(request, inputs, input_count);
     if (status == 0)
         status = spare_closed_salt(request);
     if (status == 0)

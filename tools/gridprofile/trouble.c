@@ -102,7 +102,7 @@ int damaged_store(const char *path, const char *how)
  * were exchanged are seen by that. */
 static void print_size(const struct input *input)
 {
-    const char *name = kind_name(input->size);
+    const char *name = input_kind(input);
     int more = input->size == input->room;
     if (is_size_taken(input))
         return;
@@ -116,6 +116,8 @@ static void print_size(const struct input *input)
         fprintf(stderr, " to %zu", input->most);
     if (input->also != 0)
         fprintf(stderr, " or %zu", input->also);
+    if (input->category != NULL)
+        fprintf(stderr, " at category %u", input->category->number);
     fputc('\n', stderr);
     if (name == NULL && strcmp(input->role, "STORE") == 0)
         fputs("  If it was a store, it is damaged: cut off, or with something added. Take a copy from\n"
@@ -155,8 +157,45 @@ static void print_input(int answer, const struct input *input)
         print_size(input);
     if (answer == GRIDPROFILE_MISMATCH && strcmp(input->role, "KEY") == 0) {
         fputs("  ", stderr);
-        print_fingerprint(stderr, input->bytes);
+        print_fingerprint(stderr, input->category, input->bytes);
     }
+}
+
+/* What the sizes of the files tell of their category. */
+struct told {
+    const struct category *asked;    /* the one of the command line */
+    const struct category *category; /* that of the first file that tells one */
+    int differ;                      /* another tells another */
+    int untold;                      /* one has the size of its kind at no category */
+};
+
+static void tell_category(struct told *told, const struct input *input)
+{
+    const struct category *category =
+        is_line_input(input) ? NULL : category_of(input->sized, input->size);
+    told->asked = input->category;
+    told->untold |= category == NULL;
+    told->differ |= category != NULL && told->category != NULL && category != told->category;
+    if (told->category == NULL)
+        told->category = category;
+}
+
+/* Files of another category are told from files that are exchanged or damaged. */
+static void print_size_advice(const struct input *inputs, size_t count)
+{
+    struct told told = {0};
+    for (size_t at = 0; at < count; at++)
+        if (inputs[at].category != NULL)
+            tell_category(&told, &inputs[at]);
+    if (told.untold || (told.category == told.asked && !told.differ))
+        print_advice(refusals[GRIDPROFILE_BAD_SIZE - 1].advice);
+    else if (told.differ)
+        print_advice("these files are of different categories: take files of one, and name it by "
+                     "`--category`");
+    else
+        fprintf(stderr,
+                "  What to do: `--category %u` is for files of these sizes; `gridprofile help` lists "
+                "all sizes.\n", told.category->number);
 }
 
 int refused(const char *command, int answer, const struct input *inputs, size_t count,
@@ -169,15 +208,19 @@ int refused(const char *command, int answer, const struct input *inputs, size_t 
         print_input(answer, &inputs[at]);
     if (line != NULL)
         explain_line(stderr, line, length);
-    print_advice(line != NULL ? on_line->advice : refusal->advice);
+    if (line == NULL && answer == GRIDPROFILE_BAD_SIZE)
+        print_size_advice(inputs, count);
+    else
+        print_advice(line != NULL ? on_line->advice : refusal->advice);
     return answer;
 }
 
 int refused_package(const char *command, int answer, const struct input *inputs, size_t count,
                     const struct input *package)
 {
+    size_t signature = package->category->signature;
     if (answer != GRIDPROFILE_BAD_PROFILE)
         return refused(command, answer, inputs, count, NULL, 0);
-    return refused(command, answer, inputs, count, package->bytes + GRIDPROFILE_SIGNATURE_BYTES,
-                   package->length - GRIDPROFILE_SIGNATURE_BYTES);
+    return refused(command, answer, inputs, count, package->bytes + signature,
+                   package->length - signature);
 }

@@ -12,14 +12,17 @@ struct page {
 };
 
 static const struct page pages[] = {
-    {"new-key", "PRIVATE KEY", "[--force] [--wait SECONDS]", "draw a private seed and make its key",
+    {"new-key", "PRIVATE KEY", "[--category 1|3|5] [--force] [--wait SECONDS]",
+     "draw a private seed and make its key",
      "Draws a private seed from the operating system, and writes it to PRIVATE, which only its owner\n"
      "may read, and its public key to KEY, which is for everybody. PRIVATE must not exist, whatever\n"
-     "the options are. Keep it: nobody can make it again. Both files are written, or none.\n"},
-    {"key", "PRIVATE KEY", "[--force] [--wait SECONDS]", "make the key of a private seed again",
+     "the options are. Keep it: nobody can make it again. Both files are written, or none.\n"
+     "Whoever has the key needs its category too, for verify and load.\n"},
+    {"key", "PRIVATE KEY", "[--category 1|3|5] [--force] [--wait SECONDS]",
+     "make the key of a private seed again",
      "Makes the public key of a private seed that there is, for instance after the key was lost.\n"},
     {"sign", "PRIVATE LINE PACKAGE",
-     "[--force] [--wait SECONDS] [--key KEY] "
+     "[--category 1|3|5] [--force] [--wait SECONDS] [--key KEY] "
      "[--given-master-seed MASTER --given-salt SALT --key KEY]",
      "sign a profile line, which makes a package",
      "Signs the line under the private seed, verifies the package, and writes it. Master seed and salt\n"
@@ -29,18 +32,21 @@ static const struct page pages[] = {
      "same package. Never give the same two for another line: that can give the private seed away.\n"
      "The salt is published at the front of the package. Seeds that share bytes with one another or\n"
      "with the package are refused, and so is a salt in a file for its owner alone, as seeds are.\n"},
-    {"verify", "KEY PACKAGE", "", "verify a package: its signature, then its line",
+    {"verify", "KEY PACKAGE", "[--category 1|3|5]",
+     "verify a package: its signature, then its line",
      "Prints which device the package is for, and the key's fingerprint, which is to be compared with\n"
      "what the signer reads aloud.\n"},
     {"new-store", "STORE", "[--force] [--wait SECONDS]", "make an empty store",
      "With --force it empties a store that exists.\n"},
-    {"load", "STORE KEY PACKAGE COUNTRY CLASS", "[--wait SECONDS]",
+    {"load", "STORE KEY PACKAGE COUNTRY CLASS", "[--category 1|3|5] [--wait SECONDS]",
      "verify a package and store its profile",
      "Does what a device does that is set to COUNTRY and CLASS, and prints what it accepted and what\n"
-     "that replaces. STORE must exist. Loads of one store at the same time wait for each other.\n"},
+     "that replaces. STORE must exist. Loads of one store at the same time wait for each other.\n"
+     "A device is built for one category; a store file takes packages of each.\n"},
     {"lookup", "STORE COUNTRY CLASS", "", "print the line that is stored for COUNTRY and CLASS", ""},
     {"show", "FILE", "", "print a package, a store, a line or a key in words",
-     "It verifies nothing. Of a key it prints the fingerprint: 16 bytes of SHAKE128 of the key.\n"},
+     "It verifies nothing. Of a key or a package it says the category. Of a key it prints the\n"
+     "fingerprint: 16 bytes of SHAKE128 of the key at category 1, 24 and 32 of SHAKE256 at 3 and 5.\n"},
     {"preview", "[FILE]", "", "list what a device would hold after these lines",
      "The lines are taken as if they were signed; without FILE they come from standard input. How many\n"
      "were skipped, and why the first was, is said on standard error.\n"},
@@ -49,20 +55,23 @@ static const struct page pages[] = {
 static const char *const options =
     "\n"
     "Options:\n"
-    "  --force         replace an output that exists; a seed is never replaced, and a key or a store\n"
-    "                  only by another\n"
-    "  --wait SECONDS  how long to wait for another run that writes in the same folder (30)\n"
-    "  --help, -h      say what a command does; --version prints the version\n";
+    "  --category 1|3|5  the category of seeds, key and package (1), where a command takes any of them\n"
+    "  --force           replace an output that exists; a seed is never replaced, and a key or a store\n"
+    "                    only by another\n"
+    "  --wait SECONDS    how long to wait for another run that writes in the same folder (30)\n"
+    "  --help, -h        say what a command does; --version prints the version\n";
 
 static const char *const files =
     "\n"
     "Files; \"-\" is standard input or standard output, and one input at most may be \"-\":\n"
-    "  PRIVATE  private seed, 32 bytes, secret\n"
-    "  KEY      public key, 77 bytes\n"
+    "  PRIVATE  private seed, secret: 32 bytes at category 1, 48 at 3, 64 at 5\n"
+    "  KEY      public key: 77 bytes at category 1, 115 at 3, 153 at 5\n"
+    "  PACKAGE  signature and line: 19194 to 19224 bytes at category 1, 42724 to 42754 at 3,\n"
+    "           76340 to 76370 at 5\n"
+    "  MASTER   master seed, secret: 16 bytes at category 1, 24 at 3, 32 at 5\n"
+    "  SALT     as many bytes as a private seed\n"
     "  LINE     one profile line, 42 to 72 bytes with its line feed (`gridprofile help line`)\n"
-    "  PACKAGE  signature and line, 19194 to 19224 bytes\n"
     "  STORE    16 profiles and a checksum, 1056 bytes; 1024 without the checksum\n"
-    "  MASTER   master seed, 16 bytes, secret;  SALT  32 bytes\n"
     "COUNTRY is two letters A to Z, CLASS one letter A to D.\n"
     "\n"
     "A file is written whole or not at all; after a refusal it is as it was.\n"

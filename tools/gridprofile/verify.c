@@ -1,44 +1,47 @@
 /* gridprofile verify KEY PACKAGE */
 #include "program.h"
 
-int verify_package(const uint8_t *key, size_t key_length, const uint8_t *package, size_t length)
+int verify_package(const struct category *category, const uint8_t *key, size_t key_length,
+                   const uint8_t *package, size_t length)
 {
-    const uint8_t *line = package + GRIDPROFILE_SIGNATURE_BYTES;
+    const uint8_t *line = package + category->signature;
     uint8_t profile[GRIDPROFILE_PROFILE_IMAGE_BYTES];
     int answer;
-    if (length < GRIDPROFILE_PACKAGE_MIN_BYTES || length > GRIDPROFILE_PACKAGE_MAX_BYTES)
+    if (length < category->least_package || length > category->most_package)
         return GRIDPROFILE_BAD_SIZE;
-    length -= GRIDPROFILE_SIGNATURE_BYTES;
-    answer = gridprofile_verify(key, key_length, line, length, package, GRIDPROFILE_SIGNATURE_BYTES);
+    length -= category->signature;
+    answer = category->verify(key, key_length, line, length, package, category->signature);
     return answer != 0 ? answer : gridprofile_read_line(line, length, profile, sizeof profile);
 }
 
 /* The line of a verified package. */
-static void print_line_of(const uint8_t *package, size_t length)
+static void print_line_of(const struct input *package)
 {
+    size_t signature = package->category->signature;
     uint8_t profile[GRIDPROFILE_PROFILE_IMAGE_BYTES];
-    (void)gridprofile_read_line(package + GRIDPROFILE_SIGNATURE_BYTES,
-                                length - GRIDPROFILE_SIGNATURE_BYTES, profile, sizeof profile);
+    (void)gridprofile_read_line(package->bytes + signature, package->length - signature, profile,
+                                sizeof profile);
     print_device(stdout, profile);
 }
 
 int run_verify(const struct request *request)
 {
-    static uint8_t key[GRIDPROFILE_KEY_BYTES + 1], package[GRIDPROFILE_PACKAGE_MAX_BYTES + 1];
+    static uint8_t key[MOST_KEY_BYTES + 1], package[MOST_PACKAGE_BYTES + 1];
+    const struct category *category = request->category;
     struct input inputs[] = {
-        exact_input("KEY", request->arguments[0], key, GRIDPROFILE_KEY_BYTES),
-        package_input(request->arguments[1], package),
+        sized_input(category, KEY_SIZE, request->arguments[0], key, sizeof key),
+        sized_input(category, PACKAGE_SIZE, request->arguments[1], package, sizeof package),
     };
     int status = check_streams(request, inputs, COUNT(inputs)), answer;
     if (status == 0)
         status = read_inputs(inputs, COUNT(inputs));
     if (status != 0)
         return status;
-    answer = verify_package(key, inputs[0].length, package, inputs[1].length);
+    answer = verify_package(category, key, inputs[0].length, package, inputs[1].length);
     if (answer != 0)
         return refused_package(request->command, answer, inputs, COUNT(inputs), &inputs[1]);
     fputs("The signature holds, and the line is a profile: ", stdout);
-    print_line_of(package, inputs[1].length);
-    print_fingerprint(stdout, key);
+    print_line_of(&inputs[1]);
+    print_fingerprint(stdout, category, key);
     return 0;
 }
