@@ -1,21 +1,29 @@
 /* Calls every entry from C, on worked examples. It prints one line for each call, and ends with
  * status 1 where one of them is not as it should be. */
-#include "gridprofile.h"
+#include "gridprofile_category3.h"
+#include "gridprofile_category5.h"
 
 #include <stdio.h>
 #include <string.h>
 
 static int failed = 0;
 
-static void expect(const char *name, int answer, int wanted, const uint8_t *got,
+/* The name of an entry is a prefix, which is the category's, and the rest. */
+static void expect(const char *prefix, const char *name, int answer, int wanted, const uint8_t *got,
                    const uint8_t *bytes, size_t len)
 {
     int ok = answer == wanted && memcmp(got, bytes, len) == 0;
-    printf("%s %s\n", ok ? "ok" : "FAILED", name);
+    printf("%s %s%s\n", ok ? "ok" : "FAILED", prefix, name);
     failed |= !ok;
 }
 
-static void packing(void)
+static void expect_length(size_t length, size_t wanted)
+{
+    const uint8_t none[1] = {0};
+    expect("", "its length", length == wanted, 1, none, none, 0);
+}
+
+static void packing(const char *prefix)
 {
     const uint8_t values[3] = {1, 2, 3}, packed_values[3] = {0x01, 0xC1, 0x00};
     const uint8_t exponents[3] = {6, 5, 1}, packed_exponents[2] = {0x6E, 0x00};
@@ -24,95 +32,49 @@ static void packing(void)
     uint8_t narrow[GRIDPROFILE_PACKED_EXPONENTS_BYTES(3)] = {0};
     uint8_t out[3] = {0};
     uint8_t lent[1] = {9};
-    expect("gridprofile_pack_values", gridprofile_pack_values(values, 3, packed, sizeof packed), 0,
+    expect(prefix, "pack_values", gridprofile_pack_values(values, 3, packed, sizeof packed), 0,
            packed, packed_values, 3);
-    expect("gridprofile_unpack_values", gridprofile_unpack_values(packed, sizeof packed, out, 3), 0,
+    expect(prefix, "unpack_values", gridprofile_unpack_values(packed, sizeof packed, out, 3), 0,
            out, values, 3);
-    expect("gridprofile_pack_exponents",
+    expect(prefix, "pack_exponents",
            gridprofile_pack_exponents(exponents, 3, narrow, sizeof narrow), 0, narrow,
            packed_exponents, 2);
-    expect("gridprofile_unpack_exponents",
+    expect(prefix, "unpack_exponents",
            gridprofile_unpack_exponents(narrow, sizeof narrow, out, 3), 0, out, exponents, 3);
-    expect("gridprofile_unpack_values of a bad field", gridprofile_unpack_values(bad, 1, lent, 1),
+    expect(prefix, "unpack_values of a bad field", gridprofile_unpack_values(bad, 1, lent, 1),
            GRIDPROFILE_BAD_FIELD, lent, kept, 1);
-    expect("gridprofile_pack_values of nothing", gridprofile_pack_values(NULL, 0, NULL, 0), 0, kept,
+    expect(prefix, "pack_values of nothing", gridprofile_pack_values(NULL, 0, NULL, 0), 0, kept,
            kept, 1);
 }
 
-static void hashing(void)
+static void hashing(const char *prefix)
 {
-    const uint8_t wanted[8] = {0x7F, 0x9C, 0x2B, 0xA4, 0xE8, 0x8F, 0x82, 0x7D};
+    const uint8_t wanted_128[8] = {0x7F, 0x9C, 0x2B, 0xA4, 0xE8, 0x8F, 0x82, 0x7D};
+    const uint8_t wanted_256[8] = {0x46, 0xB9, 0xDD, 0x2B, 0x0B, 0xA8, 0x8D, 0x13};
     uint8_t out[8] = {0};
     gridprofile_shake128(NULL, 0, out, sizeof out);
-    expect("gridprofile_shake128", 0, 0, out, wanted, sizeof out);
+    expect(prefix, "shake128", 0, 0, out, wanted_128, sizeof out);
+    gridprofile_shake256(NULL, 0, out, sizeof out);
+    expect(prefix, "shake256", 0, 0, out, wanted_256, sizeof out);
 }
 
-typedef uint8_t (*sample)(const uint8_t *, size_t, uint8_t *, size_t);
-
-/* A block of zeros yields `first` everywhere; a shorter output is refused and not touched. */
-static void sampling(const char *name, sample draw, size_t block_len, size_t count, uint8_t first)
-{
-    static const uint8_t block[GRIDPROFILE_MATRIX_BLOCK_BYTES];
-    static uint8_t out[GRIDPROFILE_MATRIX_VALUES], old[GRIDPROFILE_MATRIX_VALUES];
-    memset(out, 0xA5, sizeof out);
-    memset(old, 0xA5, sizeof old);
-    expect(name, draw(block, block_len, out, count - 1), GRIDPROFILE_BAD_SIZE, out, old, sizeof out);
-    memset(old, first, count);
-    expect(name, draw(block, block_len, out, count), GRIDPROFILE_DONE, out, old, sizeof out);
-}
-
-/* Fields of 0 exchange each position with the first one: in the end each position holds what stood
- * one above it, and the last holds what stood first. */
-static void second_challenge(void)
-{
-    static const uint8_t block[GRIDPROFILE_SECOND_CHALLENGE_BLOCK_BYTES];
-    uint8_t out[GRIDPROFILE_ROUNDS], wanted[GRIDPROFILE_ROUNDS];
-    for (int j = 0; j < GRIDPROFILE_ROUNDS; j++) {
-        wanted[j] = (uint8_t)(j < GRIDPROFILE_ONES - 1 || j == GRIDPROFILE_ROUNDS - 1);
-    }
-    expect("gridprofile_sample_second_challenge",
-           gridprofile_sample_second_challenge(block, sizeof block, out, sizeof out), 0, out,
-           wanted, sizeof out);
-}
-
-/* A message signed and checked, whole and with a byte of its signature changed, and one round that
- * opens nothing. */
-static void signing(void)
-{
-    static const uint8_t seed[GRIDPROFILE_PRIVATE_SEED_BYTES], master[GRIDPROFILE_MASTER_SEED_BYTES];
-    static const uint8_t salt[GRIDPROFILE_SALT_BYTES], message[3] = {1, 2, 3};
-    static uint8_t key[GRIDPROFILE_KEY_BYTES], signature[GRIDPROFILE_SIGNATURE_BYTES];
-    int answer = gridprofile_make_key(seed, sizeof seed, key, sizeof key);
-    expect("gridprofile_make_key", answer, GRIDPROFILE_DONE, key, key, 0);
-    answer = gridprofile_sign(seed, sizeof seed, master, sizeof master, salt, sizeof salt, message, 3,
-                              signature, sizeof signature);
-    expect("gridprofile_sign", answer, GRIDPROFILE_DONE, signature, salt, sizeof salt);
-    answer = gridprofile_verify(key, sizeof key, message, 3, signature, sizeof signature);
-    expect("gridprofile_verify", answer, GRIDPROFILE_DONE, key, key, 0);
-    signature[sizeof signature - 1] ^= 1;
-    answer = gridprofile_verify(key, sizeof key, message, 3, signature, sizeof signature);
-    expect("gridprofile_verify of a damaged signature", answer, GRIDPROFILE_MISMATCH, key, key, 0);
-    answer = gridprofile_verify_round(key, sizeof key, salt, sizeof salt, 1, salt, sizeof salt, salt,
-                                      sizeof salt, 1, salt, sizeof salt, 1, master, sizeof master);
-    expect("gridprofile_verify_round", answer, GRIDPROFILE_MISMATCH, key, key, 0);
-}
+static const char line[] = "GP1,XA,B,12,230,50,1150,100,800,1500,1500,100,-2500,100\n";
 
 /* A line read and written again. */
-static void lines(void)
+static void lines(const char *prefix)
 {
-    static const char line[] = "GP1,XA,B,12,230,50,1150,100,800,1500,1500,100,-2500,100\n";
     uint8_t profile[GRIDPROFILE_PROFILE_IMAGE_BYTES], out[GRIDPROFILE_LINE_MAX_BYTES];
     const uint8_t head[5] = {1, 'X', 'A', 'B', 12};
     size_t length = 0;
     int answer = gridprofile_read_line((const uint8_t *)line, sizeof line - 1, profile, sizeof profile);
-    expect("gridprofile_read_line", answer, GRIDPROFILE_DONE, profile, head, sizeof head);
+    expect(prefix, "read_line", answer, GRIDPROFILE_DONE, profile, head, sizeof head);
     answer = gridprofile_write_line(profile, sizeof profile, out, sizeof out, &length);
-    expect("gridprofile_write_line", answer, GRIDPROFILE_DONE, out, (const uint8_t *)line, length);
-    expect("its length", length == sizeof line - 1, 1, out, out, 0);
+    expect(prefix, "write_line", answer, GRIDPROFILE_DONE, out, (const uint8_t *)line, length);
+    expect_length(length, sizeof line - 1);
 }
 
 /* The listing of two lines, in either order. */
-static void listing(void)
+static void listing(const char *prefix)
 {
     static const char input[] = "GP1,XA,B,12,230,50,1150,100,800,1500,1500,100,-2500,100\n"
                                 "GP1,XA,C,5,400,50,1100,200,850,1500,1500,100,-2500,100\n";
@@ -122,53 +84,167 @@ static void listing(void)
     size_t length = 0;
     int answer = gridprofile_preview((const uint8_t *)input, sizeof input - 1, out, sizeof out, &length);
     const char *wanted = memcmp(out, one, sizeof one - 1) == 0 ? one : other;
-    expect("gridprofile_preview", answer, GRIDPROFILE_DONE, out, (const uint8_t *)wanted, length);
-    expect("its length", length == sizeof one - 1, 1, out, out, 0);
+    expect(prefix, "preview", answer, GRIDPROFILE_DONE, out, (const uint8_t *)wanted, length);
+    expect_length(length, sizeof one - 1);
+}
+
+/* A category: the prefix of its names, its sizes and its functions. */
+struct category {
+    const char *prefix;
+    size_t places, matrix_values, rounds, ones;
+    size_t private_seed, master_seed, salt, digest, key, signature, reply_1, package_max;
+    size_t matrix_block, exponents_block, mask_values_block, first_challenges_block;
+    size_t second_challenge_block;
+    uint8_t (*sample_matrix)(const uint8_t *, size_t, uint8_t *, size_t);
+    uint8_t (*sample_exponents)(const uint8_t *, size_t, uint8_t *, size_t);
+    uint8_t (*sample_mask_values)(const uint8_t *, size_t, uint8_t *, size_t);
+    uint8_t (*sample_first_challenges)(const uint8_t *, size_t, uint8_t *, size_t);
+    uint8_t (*sample_second_challenge)(const uint8_t *, size_t, uint8_t *, size_t);
+    uint8_t (*make_key)(const uint8_t *, size_t, uint8_t *, size_t);
+    uint8_t (*sign)(const uint8_t *, size_t, const uint8_t *, size_t, const uint8_t *, size_t,
+                    const uint8_t *, size_t, uint8_t *, size_t);
+    uint8_t (*verify)(const uint8_t *, size_t, const uint8_t *, size_t, const uint8_t *, size_t);
+    uint8_t (*verify_round)(const uint8_t *, size_t, const uint8_t *, size_t, uint32_t,
+                            const uint8_t *, size_t, const uint8_t *, size_t, uint32_t,
+                            const uint8_t *, size_t, uint32_t, const uint8_t *, size_t);
+    uint8_t (*make_package)(const uint8_t *, size_t, const uint8_t *, size_t, const uint8_t *,
+                            size_t, const uint8_t *, size_t, uint8_t *, size_t, size_t *);
+    uint8_t (*load)(uint8_t *, size_t, const uint8_t *, size_t, const uint8_t *, size_t,
+                    const uint8_t *, size_t, uint32_t);
+};
+
+/* The category whose constants and functions begin so. */
+#define CATEGORY(SIZE, function)                                                                  \
+    {                                                                                             \
+        .prefix = #function, .places = SIZE##PLACES, .matrix_values = SIZE##MATRIX_VALUES,        \
+        .rounds = SIZE##ROUNDS, .ones = SIZE##ONES, .private_seed = SIZE##PRIVATE_SEED_BYTES,     \
+        .master_seed = SIZE##MASTER_SEED_BYTES, .salt = SIZE##SALT_BYTES,                         \
+        .digest = SIZE##DIGEST_BYTES, .key = SIZE##KEY_BYTES, .signature = SIZE##SIGNATURE_BYTES, \
+        .reply_1 = SIZE##REPLY_1_BYTES, .package_max = SIZE##PACKAGE_MAX_BYTES,                   \
+        .matrix_block = SIZE##MATRIX_BLOCK_BYTES,                                                 \
+        .exponents_block = SIZE##EXPONENTS_BLOCK_BYTES,                                           \
+        .mask_values_block = SIZE##MASK_VALUES_BLOCK_BYTES,                                       \
+        .first_challenges_block = SIZE##FIRST_CHALLENGES_BLOCK_BYTES,                             \
+        .second_challenge_block = SIZE##SECOND_CHALLENGE_BLOCK_BYTES,                             \
+        .sample_matrix = function##sample_matrix,                                                 \
+        .sample_exponents = function##sample_exponents,                                           \
+        .sample_mask_values = function##sample_mask_values,                                       \
+        .sample_first_challenges = function##sample_first_challenges,                             \
+        .sample_second_challenge = function##sample_second_challenge,                             \
+        .make_key = function##make_key, .sign = function##sign, .verify = function##verify,       \
+        .verify_round = function##verify_round, .make_package = function##make_package,           \
+        .load = function##load,                                                                   \
+    }
+
+static const struct category categories[3] = {
+    CATEGORY(GRIDPROFILE_, gridprofile_),
+    CATEGORY(GRIDPROFILE_CATEGORY3_, gridprofile_category3_),
+    CATEGORY(GRIDPROFILE_CATEGORY5_, gridprofile_category5_),
+};
+
+/* Buffers in the sizes of category 5, which are the greatest. Seeds and blocks are zeros. */
+static const uint8_t zeros[GRIDPROFILE_CATEGORY5_MATRIX_BLOCK_BYTES];
+static uint8_t key[GRIDPROFILE_CATEGORY5_KEY_BYTES];
+static uint8_t signature[GRIDPROFILE_CATEGORY5_SIGNATURE_BYTES];
+static uint8_t package[GRIDPROFILE_CATEGORY5_PACKAGE_MAX_BYTES];
+
+typedef uint8_t (*sample)(const uint8_t *, size_t, uint8_t *, size_t);
+
+/* A block of zeros yields `first` everywhere; a shorter output is refused and not touched. */
+static void sampling(const char *prefix, const char *name, sample draw, size_t block_len,
+                     size_t count, uint8_t first)
+{
+    static uint8_t out[GRIDPROFILE_CATEGORY5_MATRIX_VALUES];
+    static uint8_t old[GRIDPROFILE_CATEGORY5_MATRIX_VALUES];
+    memset(out, 0xA5, sizeof out);
+    memset(old, 0xA5, sizeof old);
+    expect(prefix, name, draw(zeros, block_len, out, count - 1), GRIDPROFILE_BAD_SIZE, out, old,
+           sizeof out);
+    memset(old, first, count);
+    expect(prefix, name, draw(zeros, block_len, out, count), GRIDPROFILE_DONE, out, old,
+           sizeof out);
+}
+
+static void samples(const struct category *c)
+{
+    sampling(c->prefix, "sample_matrix", c->sample_matrix, c->matrix_block, c->matrix_values, 0);
+    sampling(c->prefix, "sample_exponents", c->sample_exponents, c->exponents_block, c->places, 0);
+    sampling(c->prefix, "sample_mask_values", c->sample_mask_values, c->mask_values_block,
+             c->places, 0);
+    sampling(c->prefix, "sample_first_challenges", c->sample_first_challenges,
+             c->first_challenges_block, c->rounds, 1);
+}
+
+/* Fields of 0 exchange each position with the first one: in the end each position holds what stood
+ * one above it, and the last holds what stood first. */
+static void second_challenge(const struct category *c)
+{
+    uint8_t out[GRIDPROFILE_CATEGORY5_ROUNDS], wanted[GRIDPROFILE_CATEGORY5_ROUNDS];
+    for (size_t j = 0; j < c->rounds; j++) {
+        wanted[j] = (uint8_t)(j < c->ones - 1 || j == c->rounds - 1);
+    }
+    int answer = c->sample_second_challenge(zeros, c->second_challenge_block, out, c->rounds);
+    expect(c->prefix, "sample_second_challenge", answer, 0, out, wanted, c->rounds);
+}
+
+/* A message signed and checked, whole and with a byte of its signature changed, and one round that
+ * opens nothing. */
+static void signing(const struct category *c)
+{
+    static const uint8_t message[3] = {1, 2, 3};
+    int answer = c->make_key(zeros, c->private_seed, key, c->key);
+    expect(c->prefix, "make_key", answer, GRIDPROFILE_DONE, key, key, 0);
+    answer = c->sign(zeros, c->private_seed, zeros, c->master_seed, zeros, c->salt, message, 3,
+                     signature, c->signature);
+    expect(c->prefix, "sign", answer, GRIDPROFILE_DONE, signature, zeros, c->salt);
+    answer = c->verify(key, c->key, message, 3, signature, c->signature);
+    expect(c->prefix, "verify", answer, GRIDPROFILE_DONE, key, key, 0);
+    signature[c->signature - 1] ^= 1;
+    answer = c->verify(key, c->key, message, 3, signature, c->signature);
+    expect(c->prefix, "verify of a damaged signature", answer, GRIDPROFILE_MISMATCH, key, key, 0);
+    answer = c->verify(key, c->key - 1, message, 3, signature, c->signature);
+    expect(c->prefix, "verify under a shorter key", answer, GRIDPROFILE_BAD_SIZE, key, key, 0);
+    answer = c->verify_round(key, c->key, zeros, c->salt, 1, zeros, c->digest, zeros, c->digest, 1,
+                             zeros, c->digest, 1, zeros, c->reply_1);
+    expect(c->prefix, "verify_round", answer, GRIDPROFILE_MISMATCH, key, key, 0);
 }
 
 /* A package made, loaded, looked up, and refused the second time. */
-static void loading(void)
+static void loading(const struct category *c)
 {
-    static const char line[] = "GP1,XA,B,12,230,50,1150,100,800,1500,1500,100,-2500,100\n";
-    static const uint8_t seed[GRIDPROFILE_PRIVATE_SEED_BYTES], master[GRIDPROFILE_MASTER_SEED_BYTES];
-    static const uint8_t salt[GRIDPROFILE_SALT_BYTES], country[2] = {'X', 'A'};
-    static uint8_t key[GRIDPROFILE_KEY_BYTES], package[GRIDPROFILE_PACKAGE_MAX_BYTES];
-    static uint8_t store[GRIDPROFILE_STORE_IMAGE_BYTES];
+    static const uint8_t country[2] = {'X', 'A'};
+    uint8_t store[GRIDPROFILE_STORE_IMAGE_BYTES] = {0}, out[GRIDPROFILE_LINE_MAX_BYTES];
     const uint8_t *text = (const uint8_t *)line;
-    uint8_t out[GRIDPROFILE_LINE_MAX_BYTES];
     size_t length = 0, written = 0;
-    int answer = gridprofile_make_package(seed, sizeof seed, master, sizeof master, salt, sizeof salt,
-                                          text, sizeof line - 1, package, sizeof package, &length);
-    expect("gridprofile_make_package", answer, GRIDPROFILE_DONE, package, salt, sizeof salt);
-    expect("its length", length == GRIDPROFILE_SIGNATURE_BYTES + sizeof line - 1, 1, package, package, 0);
-    (void)gridprofile_make_key(seed, sizeof seed, key, sizeof key);
-    answer = gridprofile_load(store, sizeof store, key, sizeof key, package, length, country, 2, 'B');
-    expect("gridprofile_load", answer, GRIDPROFILE_DONE, key, key, 0);
+    int answer = c->make_package(zeros, c->private_seed, zeros, c->master_seed, zeros, c->salt,
+                                 text, sizeof line - 1, package, c->package_max, &length);
+    expect(c->prefix, "make_package", answer, GRIDPROFILE_DONE, package, zeros, c->salt);
+    expect_length(length, c->signature + sizeof line - 1);
+    (void)c->make_key(zeros, c->private_seed, key, c->key);
+    answer = c->load(store, sizeof store, key, c->key, package, length, country, 2, 'B');
+    expect(c->prefix, "load", answer, GRIDPROFILE_DONE, key, key, 0);
     answer = gridprofile_lookup(store, sizeof store, country, 2, 'B', out, sizeof out, &written);
-    expect("gridprofile_lookup", answer, GRIDPROFILE_DONE, out, text, sizeof line - 1);
-    expect("its length", written == sizeof line - 1, 1, out, out, 0);
-    answer = gridprofile_load(store, sizeof store, key, sizeof key, package, length, country, 2, 'B');
-    expect("gridprofile_load again", answer, GRIDPROFILE_OLD_SERIAL, key, key, 0);
+    expect("gridprofile_", "lookup", answer, GRIDPROFILE_DONE, out, text, sizeof line - 1);
+    expect_length(written, sizeof line - 1);
+    answer = c->load(store, sizeof store, key, c->key, package, length, country, 2, 'B');
+    expect(c->prefix, "load again", answer, GRIDPROFILE_OLD_SERIAL, key, key, 0);
     answer = gridprofile_lookup(store, sizeof store, country, 2, 'C', out, sizeof out, &written);
-    expect("gridprofile_lookup of another class", answer, GRIDPROFILE_NOT_STORED, out, text, written);
+    expect("gridprofile_", "lookup of another class", answer, GRIDPROFILE_NOT_STORED, out, text,
+           written);
 }
 
 int main(void)
 {
-    packing();
-    loading();
-    listing();
-    lines();
-    signing();
-    hashing();
-    sampling("gridprofile_sample_matrix", gridprofile_sample_matrix, GRIDPROFILE_MATRIX_BLOCK_BYTES,
-             GRIDPROFILE_MATRIX_VALUES, 0);
-    sampling("gridprofile_sample_exponents", gridprofile_sample_exponents,
-             GRIDPROFILE_EXPONENTS_BLOCK_BYTES, GRIDPROFILE_PLACES, 0);
-    sampling("gridprofile_sample_mask_values", gridprofile_sample_mask_values,
-             GRIDPROFILE_MASK_VALUES_BLOCK_BYTES, GRIDPROFILE_PLACES, 0);
-    sampling("gridprofile_sample_first_challenges", gridprofile_sample_first_challenges,
-             GRIDPROFILE_FIRST_CHALLENGES_BLOCK_BYTES, GRIDPROFILE_ROUNDS, 1);
-    second_challenge();
+    const char *prefix = categories[0].prefix;
+    packing(prefix);
+    listing(prefix);
+    lines(prefix);
+    hashing(prefix);
+    for (const struct category *c = categories; c < categories + 3; c++) {
+        loading(c);
+        signing(c);
+        samples(c);
+        second_challenge(c);
+    }
     return failed;
 }

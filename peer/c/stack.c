@@ -8,60 +8,94 @@
 #include <ucontext.h>
 
 #include "gridprofile.h"
+#include "gridprofile_category3.h"
+#include "gridprofile_category5.h"
 
 #define STACK_BYTES (1 << 20)
 #define PATTERN 0xA5
 
 static const char text[] = "GP1,XA,B,12,230,50,1150,100,800,1500,1500,100,-2500,100\n";
 static const uint8_t country[2] = {'X', 'A'};
-static uint8_t line[sizeof text - 1];
-static uint8_t private_seed[GRIDPROFILE_PRIVATE_SEED_BYTES], master_seed[GRIDPROFILE_MASTER_SEED_BYTES];
-static uint8_t salt[GRIDPROFILE_SALT_BYTES], digest[GRIDPROFILE_DIGEST_BYTES], message[72];
-static uint8_t key[GRIDPROFILE_KEY_BYTES], signature[GRIDPROFILE_SIGNATURE_BYTES];
-static uint8_t package[GRIDPROFILE_PACKAGE_MAX_BYTES], store[GRIDPROFILE_STORE_IMAGE_BYTES];
-static uint8_t profile[GRIDPROFILE_PROFILE_IMAGE_BYTES], found[GRIDPROFILE_LINE_MAX_BYTES];
-static uint8_t listing[GRIDPROFILE_LISTING_BYTES], reply[GRIDPROFILE_REPLY_0_BYTES];
-static uint8_t matrix_block[GRIDPROFILE_MATRIX_BLOCK_BYTES], matrix[GRIDPROFILE_MATRIX_VALUES];
-static uint8_t exponents_block[GRIDPROFILE_EXPONENTS_BLOCK_BYTES], mask_block[GRIDPROFILE_MASK_VALUES_BLOCK_BYTES];
-static uint8_t first_block[GRIDPROFILE_FIRST_CHALLENGES_BLOCK_BYTES];
-static uint8_t second_block[GRIDPROFILE_SECOND_CHALLENGE_BLOCK_BYTES];
-static uint8_t places[GRIDPROFILE_PLACES], rounds[GRIDPROFILE_ROUNDS];
+static uint8_t line[sizeof text - 1], message[72], profile[GRIDPROFILE_PROFILE_IMAGE_BYTES];
+static uint8_t found[GRIDPROFILE_LINE_MAX_BYTES], listing[GRIDPROFILE_LISTING_BYTES];
+static uint8_t numbers[GRIDPROFILE_PLACES];
 static uint8_t packed_values[GRIDPROFILE_PACKED_VALUES_BYTES(GRIDPROFILE_PLACES)];
 static uint8_t packed_exponents[GRIDPROFILE_PACKED_EXPONENTS_BYTES(GRIDPROFILE_PLACES)];
-static size_t package_len, length;
+static size_t length;
+
+/* What is lent at a category. `c` begins the names of its functions, `C` those of its sizes; both are empty at
+ * category 1. */
+#define BUFFERS(c, C)                                                                                                  \
+    static struct {                                                                                                    \
+        uint8_t private_seed[GRIDPROFILE_##C##PRIVATE_SEED_BYTES], master_seed[GRIDPROFILE_##C##MASTER_SEED_BYTES];    \
+        uint8_t salt[GRIDPROFILE_##C##SALT_BYTES], digest[GRIDPROFILE_##C##DIGEST_BYTES];                              \
+        uint8_t key[GRIDPROFILE_##C##KEY_BYTES], signature[GRIDPROFILE_##C##SIGNATURE_BYTES];                          \
+        uint8_t package[GRIDPROFILE_##C##PACKAGE_MAX_BYTES], store[GRIDPROFILE_STORE_IMAGE_BYTES];                     \
+        uint8_t reply[GRIDPROFILE_##C##REPLY_0_BYTES];                                                                 \
+        uint8_t matrix_block[GRIDPROFILE_##C##MATRIX_BLOCK_BYTES], matrix[GRIDPROFILE_##C##MATRIX_VALUES];             \
+        uint8_t exponents_block[GRIDPROFILE_##C##EXPONENTS_BLOCK_BYTES];                                               \
+        uint8_t mask_block[GRIDPROFILE_##C##MASK_VALUES_BLOCK_BYTES];                                                  \
+        uint8_t first_block[GRIDPROFILE_##C##FIRST_CHALLENGES_BLOCK_BYTES];                                            \
+        uint8_t second_block[GRIDPROFILE_##C##SECOND_CHALLENGE_BLOCK_BYTES];                                           \
+        uint8_t places[GRIDPROFILE_##C##PLACES], rounds[GRIDPROFILE_##C##ROUNDS];                                      \
+        size_t package_len;                                                                                            \
+    } c##lent;
+
+BUFFERS(, )
+BUFFERS(category3_, CATEGORY3_)
+BUFFERS(category5_, CATEGORY5_)
 
 /* A slice of a whole array. */
 #define ALL(array) array, sizeof array
 
-/* A job that must have this answer: a refusal on the way would use less. */
-#define JOB(name, answer, call)                                                                                        \
-    static void name(void)                                                                                             \
+/* The entries of a category, in an order in which each has what it needs: the name, the answer that must come, as a
+ * refusal on the way would use less, and the arguments. */
+#define OF_CATEGORY(DO, c)                                                                                             \
+    DO(c, sample_matrix, 0, (ALL(c##lent.matrix_block), ALL(c##lent.matrix)))                                          \
+    DO(c, sample_exponents, 0, (ALL(c##lent.exponents_block), ALL(c##lent.places)))                                    \
+    DO(c, sample_mask_values, 0, (ALL(c##lent.mask_block), ALL(c##lent.places)))                                       \
+    DO(c, sample_first_challenges, 0, (ALL(c##lent.first_block), ALL(c##lent.rounds)))                                 \
+    DO(c, sample_second_challenge, 0, (ALL(c##lent.second_block), ALL(c##lent.rounds)))                                \
+    DO(c, make_key, 0, (ALL(c##lent.private_seed), ALL(c##lent.key)))                                                  \
+    DO(c, sign, 0,                                                                                                     \
+       (ALL(c##lent.private_seed), ALL(c##lent.master_seed), ALL(c##lent.salt), ALL(message),                          \
+        ALL(c##lent.signature)))                                                                                       \
+    DO(c, verify, 0, (ALL(c##lent.key), ALL(message), ALL(c##lent.signature)))                                         \
+    DO(c, verify_round, 4,                                                                                             \
+       (ALL(c##lent.key), ALL(c##lent.salt), 1, ALL(c##lent.digest), ALL(c##lent.digest), 1, ALL(c##lent.digest), 0,   \
+        ALL(c##lent.reply)))                                                                                           \
+    DO(c, make_package, 0,                                                                                             \
+       (ALL(c##lent.private_seed), ALL(c##lent.master_seed), ALL(c##lent.salt), ALL(line), ALL(c##lent.package),       \
+        &c##lent.package_len))                                                                                         \
+    DO(c, load, 0,                                                                                                     \
+       (ALL(c##lent.store), ALL(c##lent.key), c##lent.package, c##lent.package_len, ALL(country), 'B'))
+
+/* Those that no category decides; the lookup is in what the load of category 1 stored. */
+#define OF_NONE(DO)                                                                                                    \
+    DO(, pack_values, 0, (ALL(numbers), ALL(packed_values)))                                                           \
+    DO(, unpack_values, 0, (ALL(packed_values), ALL(numbers)))                                                         \
+    DO(, pack_exponents, 0, (ALL(numbers), ALL(packed_exponents)))                                                     \
+    DO(, unpack_exponents, 0, (ALL(packed_exponents), ALL(numbers)))                                                   \
+    DO(, read_line, 0, (ALL(line), ALL(profile)))                                                                      \
+    DO(, write_line, 0, (ALL(profile), ALL(found), &length))                                                           \
+    DO(, preview, 0, (ALL(line), ALL(listing), &length))                                                               \
+    DO(, lookup, 0, (ALL(lent.store), ALL(country), 'B', ALL(found), &length))
+
+#define JOB(c, name, answer, call)                                                                                     \
+    static void c##name(void)                                                                                          \
     {                                                                                                                  \
-        if (gridprofile_##name call != answer)                                                                         \
+        if (gridprofile_##c##name call != answer)                                                                      \
             exit(1);                                                                                                   \
     }
 
-JOB(pack_values, 0, (ALL(places), ALL(packed_values)))
-JOB(unpack_values, 0, (ALL(packed_values), ALL(places)))
-JOB(pack_exponents, 0, (ALL(places), ALL(packed_exponents)))
-JOB(unpack_exponents, 0, (ALL(packed_exponents), ALL(places)))
-JOB(sample_matrix, 0, (ALL(matrix_block), ALL(matrix)))
-JOB(sample_exponents, 0, (ALL(exponents_block), ALL(places)))
-JOB(sample_mask_values, 0, (ALL(mask_block), ALL(places)))
-JOB(sample_first_challenges, 0, (ALL(first_block), ALL(rounds)))
-JOB(sample_second_challenge, 0, (ALL(second_block), ALL(rounds)))
-JOB(make_key, 0, (ALL(private_seed), ALL(key)))
-JOB(sign, 0, (ALL(private_seed), ALL(master_seed), ALL(salt), ALL(message), ALL(signature)))
-JOB(verify, 0, (ALL(key), ALL(message), ALL(signature)))
-JOB(verify_round, 4, (ALL(key), ALL(salt), 1, ALL(digest), ALL(digest), 1, ALL(digest), 0, ALL(reply)))
-JOB(read_line, 0, (ALL(line), ALL(profile)))
-JOB(write_line, 0, (ALL(profile), ALL(found), &length))
-JOB(preview, 0, (ALL(line), ALL(listing), &length))
-JOB(make_package, 0, (ALL(private_seed), ALL(master_seed), ALL(salt), ALL(line), ALL(package), &package_len))
-JOB(load, 0, (ALL(store), ALL(key), package, package_len, ALL(country), 'B'))
-JOB(lookup, 0, (ALL(store), ALL(country), 'B', ALL(found), &length))
+OF_CATEGORY(JOB, )
+OF_CATEGORY(JOB, category3_)
+OF_CATEGORY(JOB, category5_)
+OF_NONE(JOB)
 
-static void shake128(void) { gridprofile_shake128(ALL(message), ALL(digest)); }
+static void shake128(void) { gridprofile_shake128(ALL(message), ALL(lent.digest)); }
+
+static void shake256(void) { gridprofile_shake256(ALL(message), ALL(lent.digest)); }
 
 static void nothing(void) {}
 
@@ -84,31 +118,17 @@ static size_t used(void (*job)(void))
     return sizeof stack - untouched;
 }
 
-#define PRINT(name) printf(#name " %zu\n", used(name) - base)
+#define PRINT(c, name, answer, call) printf(#c #name " %zu\n", used(c##name) - base);
 
 int main(void)
 {
     size_t base = used(nothing);
     memcpy(line, text, sizeof line);
-    PRINT(shake128);
-    PRINT(pack_values);
-    PRINT(unpack_values);
-    PRINT(pack_exponents);
-    PRINT(unpack_exponents);
-    PRINT(sample_matrix);
-    PRINT(sample_exponents);
-    PRINT(sample_mask_values);
-    PRINT(sample_first_challenges);
-    PRINT(sample_second_challenge);
-    PRINT(make_key);
-    PRINT(sign);
-    PRINT(verify);
-    PRINT(verify_round);
-    PRINT(read_line);
-    PRINT(write_line);
-    PRINT(preview);
-    PRINT(make_package);
-    PRINT(load);
-    PRINT(lookup);
+    printf("shake128 %zu\n", used(shake128) - base);
+    printf("shake256 %zu\n", used(shake256) - base);
+    OF_CATEGORY(PRINT, )
+    OF_NONE(PRINT)
+    OF_CATEGORY(PRINT, category3_)
+    OF_CATEGORY(PRINT, category5_)
     return 0;
 }

@@ -36,7 +36,7 @@ pub fn fields(bytes: &[u8], width: usize) -> impl Iterator<Item = u32> + '_ {
 }
 
 /// The bytes that `count` fields take.
-pub fn packed_size(width: usize, count: usize) -> usize {
+pub const fn packed_size(width: usize, count: usize) -> usize {
     (width * count).div_ceil(8)
 }
 

@@ -1,11 +1,11 @@
-//! The entries of category 1 as the library offers them: bytes in, bytes out, a number as the answer.
+//! The entries as the library offers them: bytes in, bytes out, a number as the answer.
 
 use crate::bits::{pack, packed_size, unpack, Kind, EXPONENT, VALUE};
 use crate::draws::{sample, shuffle, Draw, EXPONENTS, FIRST_CHALLENGES, VALUES};
-use crate::keccak::{shake, SHAKE128_RATE};
+use crate::keccak::{shake, SHAKE128_RATE, SHAKE256_RATE};
 use crate::line::{image, meaning, read_line as read, write_line as written, IMAGE, LONGEST};
 use crate::refusal::{answer, answer_length, demand, BAD_SIZE};
-use crate::sizes::{Sizes, CATEGORY_1};
+use crate::sizes::Sizes;
 
 fn pack_entry(kind: Kind, numbers: &[u8], packed: &mut [u8]) -> u8 {
     let sized = demand(packed.len() == packed_size(kind.width, numbers.len()), BAD_SIZE);
@@ -33,32 +33,35 @@ fn sample_entry(draw: Draw, block_size: usize, count: usize, block: &[u8], out: 
     answer(sized.and_then(|()| sample(draw, block, count)), out)
 }
 
-const SIZES: Sizes = CATEGORY_1;
-
-pub fn sample_matrix(block: &[u8], out: &mut [u8]) -> u8 {
-    sample_entry(VALUES, SIZES.matrix_block, SIZES.matrix(), block, out)
+pub fn sample_matrix(s: &Sizes, block: &[u8], out: &mut [u8]) -> u8 {
+    sample_entry(VALUES, s.matrix_block, s.matrix(), block, out)
 }
 
-pub fn sample_exponents(block: &[u8], out: &mut [u8]) -> u8 {
-    sample_entry(EXPONENTS, SIZES.exponents_block, SIZES.n, block, out)
+pub fn sample_exponents(s: &Sizes, block: &[u8], out: &mut [u8]) -> u8 {
+    sample_entry(EXPONENTS, s.exponents_block, s.n, block, out)
 }
 
-pub fn sample_mask_values(block: &[u8], out: &mut [u8]) -> u8 {
-    sample_entry(VALUES, SIZES.mask_values_block, SIZES.n, block, out)
+pub fn sample_mask_values(s: &Sizes, block: &[u8], out: &mut [u8]) -> u8 {
+    sample_entry(VALUES, s.mask_values_block, s.n, block, out)
 }
 
-pub fn sample_first_challenges(block: &[u8], out: &mut [u8]) -> u8 {
-    sample_entry(FIRST_CHALLENGES, SIZES.first_challenges_block, SIZES.t, block, out)
+pub fn sample_first_challenges(s: &Sizes, block: &[u8], out: &mut [u8]) -> u8 {
+    sample_entry(FIRST_CHALLENGES, s.first_challenges_block, s.t, block, out)
 }
 
-pub fn sample_second_challenge(block: &[u8], out: &mut [u8]) -> u8 {
-    let sized = demand(block.len() == SIZES.second_challenge_block && out.len() == SIZES.t, BAD_SIZE);
-    answer(sized.and_then(|()| shuffle(block, SIZES.t, SIZES.w)), out)
+pub fn sample_second_challenge(s: &Sizes, block: &[u8], out: &mut [u8]) -> u8 {
+    let sized = demand(block.len() == s.second_challenge_block && out.len() == s.t, BAD_SIZE);
+    answer(sized.and_then(|()| shuffle(block, s.t, s.w)), out)
 }
 
 /// Never refuses.
 pub fn shake128(input: &[u8], out: &mut [u8]) {
     out.copy_from_slice(&shake(SHAKE128_RATE, input, out.len()));
+}
+
+/// Never refuses.
+pub fn shake256(input: &[u8], out: &mut [u8]) {
+    out.copy_from_slice(&shake(SHAKE256_RATE, input, out.len()));
 }
 
 /// Reads a line into a profile's image.

@@ -68,14 +68,14 @@ impl Lent {
 
 /// Counts the inputs on which an entry agreed, by answer.
 pub struct Tally {
-    name: &'static str,
+    name: String,
     inputs: usize,
     answers: [usize; 11],
 }
 
 impl Tally {
-    pub fn new(name: &'static str) -> Tally {
-        Tally { name, inputs: 0, answers: [0; 11] }
+    pub fn new(name: impl Into<String>) -> Tally {
+        Tally { name: name.into(), inputs: 0, answers: [0; 11] }
     }
 
     pub fn inputs(&self) -> usize {
@@ -117,22 +117,35 @@ impl Tally {
     }
 }
 
+/// An entry at sizes of its own.
+type Entry = Box<dyn Fn(&[u8], &mut [u8]) -> u8>;
+
 /// The comparison of an entry that makes a buffer from one input.
 pub struct Comparison {
     tally: Tally,
-    proved: Function,
-    plain: Function,
+    least: usize,
+    proved: Entry,
+    plain: Entry,
 }
 
 impl Comparison {
-    pub fn new(name: &'static str, proved: Function, plain: Function) -> Comparison {
-        Comparison { tally: Tally::new(name), proved, plain }
+    pub fn new(
+        name: impl Into<String>,
+        proved: impl Fn(&[u8], &mut [u8]) -> u8 + 'static,
+        plain: impl Fn(&[u8], &mut [u8]) -> u8 + 'static,
+    ) -> Comparison {
+        Comparison { tally: Tally::new(name), least: LEAST, proved: Box::new(proved), plain: Box::new(plain) }
+    }
+
+    /// The same where fewer inputs are enough.
+    pub fn at_least(self, least: usize) -> Comparison {
+        Comparison { least, ..self }
     }
 
     /// Compares the answer and every byte in reach; returns the answer.
     pub fn agree(&mut self, input: &[u8], out_len: usize) -> u8 {
         let own_input = input.to_vec();
-        let (proved, plain) = (self.proved, self.plain);
+        let (proved, plain) = (&self.proved, &self.plain);
         let shown = || format!("{input:02x?} into {out_len} bytes");
         let answer = self.tally.both(out_len, |out| proved(&own_input, out), |out| plain(input, out), shown);
         assert!(own_input == input, "input of {} on {}", self.tally.name, shown());
@@ -147,11 +160,11 @@ impl Comparison {
 
     /// Ends a comparison: enough inputs were tried, and just the answers `reached` came.
     pub fn finish(self, reached: &[u8]) {
-        self.tally.finish(LEAST, reached);
+        self.tally.finish(self.least, reached);
     }
 
-    /// How many more inputs `LEAST` asks for.
+    /// How many inputs are still to be tried.
     pub fn missing(&self) -> usize {
-        LEAST.saturating_sub(self.tally.inputs)
+        self.least.saturating_sub(self.tally.inputs)
     }
 }

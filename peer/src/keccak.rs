@@ -115,30 +115,43 @@ pub fn shake(rate: usize, input: &[u8], len: usize) -> Vec<u8> {
     }
 }
 
+/// A published output: the input, how many bytes, and the last of them.
+pub type Published = (&'static [u8], usize, &'static str);
+
+/// From FIPS 202's example files, and from NIST's short message files.
+pub const PUBLISHED_128: [Published; 5] = [
+    (b"", 32, "7f9c2ba4e88f827d616045507605853ed73b8093f6efbc88eb1a6eacfa66ef26"),
+    (b"", 512, "dda2529833462b71a41a45be97290b6f"),
+    (&[0xA3; 200], 32, "131ab8d2b594946b9c81333f9bb6e0ce75c3b93104fa3469d3917457385da037"),
+    (&[0xA3; 200], 512, "f17d7259ab075216c0699511643b6439"),
+    (&[0x0E], 16, "fa996dafaa208d72287c23bc4ed4bfd5"),
+];
+
+/// From FIPS 202's example files.
+pub const PUBLISHED_256: [Published; 4] = [
+    (b"", 32, "46b9dd2b0ba88d13233b3feb743eeb243fcd52ea62b81b82b50c27646ed5762f"),
+    (b"", 512, "1fd166c796b9cc258a064a8f57e27f2a"),
+    (&[0xA3; 200], 32, "cd8a920ed141aa0407a22d59288652e9d9f1a7ee0c1e7c1ca699424da84a904d"),
+    (&[0xA3; 200], 512, "ca92bf0be5615e96959d767197a0beeb"),
+];
+
+/// Holds a program to published outputs.
+pub fn demand_published(published: &[Published], hash: impl Fn(&[u8], usize) -> Vec<u8>) {
+    for &(input, len, end) in published {
+        let digits: String = hash(input, len).iter().map(|b| format!("{b:02x}")).collect();
+        assert_eq!(&digits[2 * len - end.len()..], end, "the end of {len} bytes of {} bytes", input.len());
+    }
+}
+
 #[cfg(test)]
 mod tests {
     use super::*;
 
-    fn hex(bytes: &[u8]) -> String {
-        bytes.iter().map(|b| format!("{b:02x}")).collect()
-    }
-
-    /// Published outputs: FIPS 202's example files, and NIST's short message files.
     #[test]
-    fn shake128_on_published_strings() {
-        let of = |input: &[u8], len| hex(&shake(SHAKE128_RATE, input, len));
-        assert_eq!(of(b"", 32), "7f9c2ba4e88f827d616045507605853ed73b8093f6efbc88eb1a6eacfa66ef26");
-        assert_eq!(of(&[0xA3; 200], 32), "131ab8d2b594946b9c81333f9bb6e0ce75c3b93104fa3469d3917457385da037");
-        assert_eq!(&of(&[0xA3; 200], 512)[992..], "f17d7259ab075216c0699511643b6439");
-        assert_eq!(of(&[0x0E], 16), "fa996dafaa208d72287c23bc4ed4bfd5");
-        assert_eq!(of(b"", 0), "");
-    }
-
-    #[test]
-    fn shake256_on_published_strings() {
-        let of = |input: &[u8], len| hex(&shake(SHAKE256_RATE, input, len));
-        assert_eq!(of(b"", 32), "46b9dd2b0ba88d13233b3feb743eeb243fcd52ea62b81b82b50c27646ed5762f");
-        assert_eq!(of(&[0xA3; 200], 32), "cd8a920ed141aa0407a22d59288652e9d9f1a7ee0c1e7c1ca699424da84a904d");
+    fn published_strings() {
+        demand_published(&PUBLISHED_128, |input, len| shake(SHAKE128_RATE, input, len));
+        demand_published(&PUBLISHED_256, |input, len| shake(SHAKE256_RATE, input, len));
+        assert!(shake(SHAKE128_RATE, b"", 0).is_empty());
     }
 
     /// Keccak-f[1600] on the state of zeros.

@@ -1,6 +1,6 @@
 //! The system's OpenSSL, loaded when the program runs, so that nothing needs it at build time.
 
-use std::ffi::{c_char, c_int, c_void, CString};
+use std::ffi::{c_char, c_int, c_void, CStr, CString};
 use std::process::Command;
 use std::ptr::null_mut;
 
@@ -17,8 +17,9 @@ type Init = unsafe extern "C" fn(*mut c_void, *const c_void, *mut c_void) -> c_i
 type Update = unsafe extern "C" fn(*mut c_void, *const c_void, usize) -> c_int;
 type FinalXof = unsafe extern "C" fn(*mut c_void, *mut u8, usize) -> c_int;
 
-/// SHAKE128 with one context for all calls and the algorithm fetched once: OpenSSL's quickest use.
-pub struct Shake128 {
+/// SHAKE128 or SHAKE256, with one context for all calls and the algorithm fetched once: OpenSSL's
+/// quickest use.
+pub struct Shake {
     context: *mut c_void,
     algorithm: *mut c_void,
     init: Init,
@@ -46,9 +47,13 @@ fn symbol(library: *mut c_void, name: &str) -> Option<*mut c_void> {
     (!found.is_null()).then_some(found)
 }
 
-impl Shake128 {
-    /// None where no OpenSSL 3 is found.
-    pub fn load() -> Option<Shake128> {
+/// OpenSSL's names of the two.
+pub const SHAKE128: &CStr = c"SHAKE128";
+pub const SHAKE256: &CStr = c"SHAKE256";
+
+impl Shake {
+    /// The one of this name. None where no OpenSSL 3 is found.
+    pub fn load(name: &CStr) -> Option<Shake> {
         let mut library = open("libcrypto.so.3");
         if library.is_null() {
             library = open(&pythons_library()?);
@@ -56,7 +61,6 @@ impl Shake128 {
         if library.is_null() {
             return None;
         }
-        let name = c"SHAKE128";
         // SAFETY: each symbol has the type that OpenSSL 3's header gives it.
         unsafe {
             let fetch: Fetch = std::mem::transmute(symbol(library, "EVP_MD_fetch")?);
@@ -66,7 +70,7 @@ impl Shake128 {
             if algorithm.is_null() || context.is_null() {
                 return None;
             }
-            Some(Shake128 {
+            Some(Shake {
                 context,
                 algorithm,
                 init: std::mem::transmute::<*mut c_void, Init>(symbol(library, "EVP_DigestInit_ex")?),

@@ -251,7 +251,7 @@ fn verified(s: &Sizes, key: &[u8], message: &[u8], signature: &[u8]) -> Result<(
 }
 
 /// What the round examiner is given.
-#[derive(Clone, Debug)]
+#[derive(Clone, Debug, PartialEq)]
 pub struct RoundCase {
     pub key: Vec<u8>,
     pub salt: Vec<u8>,

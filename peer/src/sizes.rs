@@ -90,6 +90,8 @@ pub const CATEGORY_5: Sizes = Sizes {
     message: 65536,
 };
 
+pub const CATEGORIES: [Sizes; 3] = [CATEGORY_1, CATEGORY_3, CATEGORY_5];
+
 /// Small enough to compute in a proof, with blocks so tight that every draw is often short.
 pub const TINY: Sizes = Sizes {
     n: 4,
@@ -110,46 +112,62 @@ pub const TINY: Sizes = Sizes {
     message: 65536,
 };
 
-/// Others of the kind: whole groups and one round more than there are ones; a matrix with one column.
+/// Others of the kind: whole groups and one round more than there are ones, with SHAKE256's rate; a matrix with
+/// one column.
 pub const TINIES: [Sizes; 3] = [
     TINY,
-    Sizes { n: 8, k: 3, t: 3, w: 2, matrix_block: 14, exponents_block: 4, mask_values_block: 8, ..TINY },
+    Sizes {
+        n: 8,
+        k: 3,
+        t: 3,
+        w: 2,
+        matrix_block: 14,
+        exponents_block: 4,
+        mask_values_block: 8,
+        rate: SHAKE256_RATE,
+        ..TINY
+    },
     Sizes { n: 3, k: 1, t: 4, w: 1, matrix_block: 2, mask_values_block: 3, first_challenges_block: 4, ..TINY },
 ];
 
 impl Sizes {
     /// Places of a syndrome: rows of V.
-    pub fn rows(&self) -> usize {
+    pub const fn rows(&self) -> usize {
         self.n - self.k
     }
 
     /// Values of V.
-    pub fn matrix(&self) -> usize {
+    pub const fn matrix(&self) -> usize {
         self.rows() * self.k
     }
 
     /// A packed vector of n values.
-    pub fn packed_values(&self) -> usize {
+    pub const fn packed_values(&self) -> usize {
         packed_size(VALUE.width, self.n)
     }
 
     /// A packed vector of n exponents.
-    pub fn packed_exponents(&self) -> usize {
+    pub const fn packed_exponents(&self) -> usize {
         packed_size(EXPONENT.width, self.n)
     }
 
+    /// Packed first challenges.
+    pub const fn packed_challenges(&self) -> usize {
+        packed_size(VALUE.width, self.t)
+    }
+
     /// A packed syndrome.
-    pub fn packed_syndrome(&self) -> usize {
+    pub const fn packed_syndrome(&self) -> usize {
         packed_size(VALUE.width, self.rows())
     }
 
     /// Public seed and syndrome.
-    pub fn key(&self) -> usize {
+    pub const fn key(&self) -> usize {
         self.key_seed + self.packed_syndrome()
     }
 
     /// A reply to second challenge 0: response and transformation; to 1: the round's seed.
-    pub fn reply(&self, challenge: u8) -> usize {
+    pub const fn reply(&self, challenge: u8) -> usize {
         if challenge == 1 {
             self.round_seed
         } else {
@@ -158,11 +176,11 @@ impl Sizes {
     }
 
     /// A round's part of a signature: the reply and the commitment that it does not open.
-    pub fn part(&self, challenge: u8) -> usize {
+    pub const fn part(&self, challenge: u8) -> usize {
         self.reply(challenge) + self.digest
     }
 
-    pub fn signature(&self) -> usize {
+    pub const fn signature(&self) -> usize {
         self.salt + 2 * self.digest + self.w * self.part(1) + (self.t - self.w) * self.part(0)
     }
 }
@@ -173,12 +191,19 @@ mod tests {
 
     #[test]
     fn keys_and_signatures_have_the_sizes_of_the_paper() {
-        let sizes = [CATEGORY_1, CATEGORY_3, CATEGORY_5].map(|s| (s.key(), s.signature()));
+        let sizes = CATEGORIES.map(|s| (s.key(), s.signature()));
         assert_eq!(sizes, [(77, 19_152), (115, 42_682), (153, 76_298)]);
     }
 
     #[test]
-    fn replies_of_category_1() {
-        assert_eq!((CATEGORY_1.reply(0), CATEGORY_1.reply(1)), (160, 16));
+    fn replies_and_parts() {
+        assert_eq!(CATEGORIES.map(|s| (s.reply(0), s.reply(1))), [(160, 16), (235, 24), (315, 32)]);
+        assert_eq!(CATEGORIES.map(|s| (s.part(0), s.part(1))), [(192, 48), (283, 72), (379, 96)]);
+    }
+
+    #[test]
+    fn packed_vectors() {
+        let packed = |s: Sizes| [s.packed_values(), s.packed_exponents(), s.packed_syndrome(), s.packed_challenges()];
+        assert_eq!(CATEGORIES.map(packed), [[112, 48, 45, 143], [164, 71, 67, 215], [220, 95, 89, 287]]);
     }
 }

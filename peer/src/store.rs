@@ -5,9 +5,8 @@ use crate::refusal::{
     answer_length, demand, Refusal, BAD_DEVICE, BAD_SIZE, NOT_STORED, OLD_SERIAL, OTHER_DEVICE, STORE_FULL,
 };
 use crate::scheme;
-use crate::sizes::{Sizes, CATEGORY_1};
-
-const S: Sizes = CATEGORY_1;
+use crate::sizes::Sizes;
+use std::ops::RangeInclusive;
 
 /// Profiles that a store holds at most.
 pub const CAPACITY: usize = 16;
@@ -85,23 +84,35 @@ impl Store {
     }
 }
 
+/// The lengths of packages.
+pub fn package_lengths(s: &Sizes) -> RangeInclusive<usize> {
+    s.signature() + SHORTEST..=s.signature() + LONGEST
+}
+
 /// Signs: private seed, master seed, salt, message, signature.
 pub type Sign<'a> = &'a dyn Fn(&[u8], &[u8], &[u8], &[u8], &mut [u8]) -> u8;
 
 /// Makes the package of a line: 1, then 5, then what signing says.
-pub fn make_package(seeds: [&[u8]; 3], line: &[u8], package: &mut [u8], length: usize) -> (u8, usize) {
-    let sign: Sign = &|seed, master, salt, message, out| scheme::sign(&S, seed, master, salt, message, out);
-    make_package_by(seeds, line, package, length, sign)
+pub fn make_package(s: &Sizes, seeds: [&[u8]; 3], line: &[u8], package: &mut [u8], length: usize) -> (u8, usize) {
+    let sign: Sign = &|seed, master, salt, message, out| scheme::sign(s, seed, master, salt, message, out);
+    make_package_by(s, seeds, line, package, length, sign)
 }
 
 /// The same with another program that signs.
-pub fn make_package_by(seeds: [&[u8]; 3], line: &[u8], package: &mut [u8], length: usize, sign: Sign) -> (u8, usize) {
+pub fn make_package_by(
+    s: &Sizes,
+    seeds: [&[u8]; 3],
+    line: &[u8],
+    package: &mut [u8],
+    length: usize,
+    sign: Sign,
+) -> (u8, usize) {
     let make = || {
         let sizes = seeds.map(<[u8]>::len);
-        demand(sizes == [S.key_seed, S.round_seed, S.salt], BAD_SIZE)?;
-        demand(package.len() == S.signature() + LONGEST, BAD_SIZE)?;
+        demand(sizes == [s.key_seed, s.round_seed, s.salt], BAD_SIZE)?;
+        demand(package.len() == *package_lengths(s).end(), BAD_SIZE)?;
         read_line(line)?;
-        let mut signature = vec![0; S.signature()];
+        let mut signature = vec![0; s.signature()];
         match sign(seeds[0], seeds[1], seeds[2], line, &mut signature) {
             0 => Ok([&signature, line].concat()),
             refusal => Err(refusal),
@@ -114,13 +125,12 @@ pub fn make_package_by(seeds: [&[u8]; 3], line: &[u8], package: &mut [u8], lengt
 pub type Verify<'a> = &'a dyn Fn(&[u8], &[u8], &[u8]) -> u8;
 
 /// Loads a package into a store's image: 10, 1, what the checker says, 5, 6, 7, 8.
-pub fn load(image: &mut [u8], key: &[u8], package: &[u8], device: &Device, verify: Verify) -> u8 {
+pub fn load(s: &Sizes, image: &mut [u8], key: &[u8], package: &[u8], device: &Device, verify: Verify) -> u8 {
     let loaded = || {
         device.exists()?;
-        demand(image.len() == STORE && key.len() == S.key(), BAD_SIZE)?;
-        let lengths = S.signature() + SHORTEST..=S.signature() + LONGEST;
-        demand(lengths.contains(&package.len()), BAD_SIZE)?;
-        let (signature, line) = package.split_at(S.signature());
+        demand(image.len() == STORE && key.len() == s.key(), BAD_SIZE)?;
+        demand(package_lengths(s).contains(&package.len()), BAD_SIZE)?;
+        let (signature, line) = package.split_at(s.signature());
         match verify(key, line, signature) {
             0 => (),
             refusal => return Err(refusal),

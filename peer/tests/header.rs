@@ -1,23 +1,25 @@
-//! The constants of the C header are the sizes and numbers of the independent program.
+//! The constants of the C headers are the sizes and numbers of the independent program.
 
 use peer::bits::{packed_size, EXPONENT, VALUE};
 use peer::line::{self, Kind, Profile, Trip};
 use peer::preview;
 use peer::refusal;
-use peer::sizes::CATEGORY_1;
+use peer::sizes::{Sizes, CATEGORY_1, CATEGORY_3, CATEGORY_5};
 use peer::store;
 use std::collections::BTreeMap;
 
 const HEADER: &str = include_str!("../../include/gridprofile.h");
+const HEADER_3: &str = include_str!("../../include/gridprofile_category3.h");
+const HEADER_5: &str = include_str!("../../include/gridprofile_category5.h");
 const CHANGES: &str = include_str!("../../CHANGELOG.md");
 
 /// The defined names that stand for a plain number.
-fn constants() -> BTreeMap<String, usize> {
+fn constants(header: &str) -> BTreeMap<String, usize> {
     let define = |line: &str| {
         let mut words = line.strip_prefix("#define GRIDPROFILE_")?.split_whitespace();
         Some((words.next()?.to_string(), words.next()?.parse().ok()?))
     };
-    HEADER.lines().filter_map(define).collect()
+    header.lines().filter_map(define).collect()
 }
 
 /// A profile whose image has no byte but that of a used slot.
@@ -75,10 +77,9 @@ fn version_numbers() -> Vec<(&'static str, usize)> {
     ["VERSION_MAJOR", "VERSION_MINOR", "VERSION_PATCH"].into_iter().zip(numbers).collect()
 }
 
-/// What each of them must be; the answers in their order.
-fn expected() -> BTreeMap<String, usize> {
-    let s = CATEGORY_1;
-    let sizes = [
+/// What the header of each category has.
+fn sizes_of(s: &Sizes) -> [(&'static str, usize); 19] {
+    [
         ("PLACES", s.n),
         ("MATRIX_VALUES", s.matrix()),
         ("ROUNDS", s.t),
@@ -89,23 +90,29 @@ fn expected() -> BTreeMap<String, usize> {
         ("DIGEST_BYTES", s.digest),
         ("KEY_BYTES", s.key()),
         ("SIGNATURE_BYTES", s.signature()),
-        ("MESSAGE_MAX_BYTES", s.message),
         ("REPLY_0_BYTES", s.reply(0)),
         ("REPLY_1_BYTES", s.reply(1)),
-        ("LINE_MIN_BYTES", line::SHORTEST),
-        ("LINE_MAX_BYTES", line::LONGEST),
-        ("PROFILE_IMAGE_BYTES", line::IMAGE),
-        ("PREVIEW_MAX_BYTES", preview::LONGEST_INPUT),
-        ("LISTING_BYTES", preview::LISTING),
         ("PACKAGE_MIN_BYTES", s.signature() + line::SHORTEST),
         ("PACKAGE_MAX_BYTES", s.signature() + line::LONGEST),
-        ("STORE_IMAGE_BYTES", store::STORE),
-        ("STORE_SLOTS", store::CAPACITY),
         ("MATRIX_BLOCK_BYTES", s.matrix_block),
         ("EXPONENTS_BLOCK_BYTES", s.exponents_block),
         ("MASK_VALUES_BLOCK_BYTES", s.mask_values_block),
         ("FIRST_CHALLENGES_BLOCK_BYTES", s.first_challenges_block),
         ("SECOND_CHALLENGE_BLOCK_BYTES", s.second_challenge_block),
+    ]
+}
+
+/// What each constant of the first header must be; the answers in their order.
+fn expected() -> BTreeMap<String, usize> {
+    let sizes = [
+        ("MESSAGE_MAX_BYTES", CATEGORY_1.message),
+        ("LINE_MIN_BYTES", line::SHORTEST),
+        ("LINE_MAX_BYTES", line::LONGEST),
+        ("PROFILE_IMAGE_BYTES", line::IMAGE),
+        ("PREVIEW_MAX_BYTES", preview::LONGEST_INPUT),
+        ("LISTING_BYTES", preview::LISTING),
+        ("STORE_IMAGE_BYTES", store::STORE),
+        ("STORE_SLOTS", store::CAPACITY),
         ("BAD_SIZE", usize::from(refusal::BAD_SIZE)),
         ("SHORT_DRAW", usize::from(refusal::SHORT_DRAW)),
         ("BAD_FIELD", usize::from(refusal::BAD_FIELD)),
@@ -113,13 +120,29 @@ fn expected() -> BTreeMap<String, usize> {
     ];
     let later = ["BAD_PROFILE", "OTHER_DEVICE", "OLD_SERIAL", "STORE_FULL", "NOT_STORED", "BAD_DEVICE"];
     let later = later.into_iter().zip(5..);
-    let all = [("DONE", 0)].into_iter().chain(sizes).chain(later).chain(offsets()).chain(version_numbers());
+    let all = [("DONE", 0)].into_iter().chain(sizes).chain(sizes_of(&CATEGORY_1)).chain(later);
+    let all = all.chain(offsets()).chain(version_numbers());
     all.map(|(name, x)| (name.to_string(), x)).collect()
 }
 
 #[test]
 fn constants_of_the_header() {
-    assert_eq!(constants(), expected());
+    assert_eq!(constants(HEADER), expected());
+}
+
+/// Beside its guard, a category's header defines its sizes and nothing else. The longest message is that
+/// of category 1, so that it needs none of its own.
+#[test]
+fn constants_of_the_categories() {
+    for (number, header, s) in [(3, HEADER_3, CATEGORY_3), (5, HEADER_5, CATEGORY_5)] {
+        let named = |(name, size): (&str, usize)| (format!("CATEGORY{number}_{name}"), size);
+        let wanted: BTreeMap<_, _> = sizes_of(&s).into_iter().map(named).collect();
+        assert_eq!(constants(header), wanted);
+        let defined = header.lines().filter(|line| line.trim_start().starts_with("#define")).count();
+        assert_eq!(defined, sizes_of(&s).len() + 1, "definitions of category {number}");
+        assert!(header.contains("#include \"gridprofile.h\""));
+        assert_eq!(s.message, CATEGORY_1.message);
+    }
 }
 
 /// The version as text is that of the changelog, and so are its three numbers.
@@ -129,7 +152,7 @@ fn version_of_the_header() {
     assert_eq!(HEADER.lines().filter(|line| **line == text).count(), 1);
     let numbers = version_numbers();
     assert_eq!(numbers.len(), 3);
-    let joined: Vec<_> = numbers.iter().map(|(name, _)| constants()[*name].to_string()).collect();
+    let joined: Vec<_> = numbers.iter().map(|(name, _)| constants(HEADER)[*name].to_string()).collect();
     assert_eq!(joined.join("."), version());
 }
 

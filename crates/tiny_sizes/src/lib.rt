@@ -1,5 +1,7 @@
 // The scheme at tiny sizes, only for the tests that run it beside another program: a draw that falls short is too rare
 // at the sizes of a category to be met there. No part of the C interface.
+pub mod shake256;
+
 use parameters::Params;
 ghost use Rattle.tiny_sizes.specs.Tiny.{tiny};
 ghost use Rattle.scheme.specs.Entries.{MakesKey, Signs, Verifies, VerifiesRound};

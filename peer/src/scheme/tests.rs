@@ -1,10 +1,10 @@
 //! The scheme agrees with itself: what it signs it accepts, each reply passes the examiner, and every
 //! refusal comes in its place.
 
-use super::cases::{attempt, faulty_rounds, flipped, Committed, Signed, Spoil};
+use super::cases::{attempt, faulty_rounds, flipped, Committed, Signed};
 use super::*;
 use crate::rng::Rng;
-use crate::sizes::{CATEGORY_1, CATEGORY_3, TINY};
+use crate::sizes::{CATEGORIES, CATEGORY_1, CATEGORY_3, CATEGORY_5, TINY};
 use crate::vectors::powers;
 
 /// The first signing that is not refused.
@@ -20,10 +20,12 @@ fn signed(s: &Sizes, rng: &mut Rng) -> Signed {
 #[test]
 fn what_is_signed_is_accepted() {
     let mut rng = Rng::new(10);
-    for (s, message_len) in [(CATEGORY_1, 0), (CATEGORY_1, 56), (CATEGORY_1, 65_536), (CATEGORY_3, 56)] {
-        let (key_answer, sign_answer, made) = attempt(&s, &mut rng, message_len);
-        assert_eq!((key_answer, sign_answer), (0, 0));
-        assert_eq!(verify(&s, &made.key, &made.message, &made.signature), 0);
+    for s in CATEGORIES {
+        for message_len in [0, 56, 65_536] {
+            let (key_answer, sign_answer, made) = attempt(&s, &mut rng, message_len);
+            assert_eq!((key_answer, sign_answer), (0, 0));
+            assert_eq!(verify(&s, &made.key, &made.message, &made.signature), 0);
+        }
     }
 }
 
@@ -46,19 +48,20 @@ fn what_is_signed_at_tiny_sizes_is_accepted() {
 
 #[test]
 fn a_changed_bit_is_refused() {
-    let mut rng = Rng::new(12);
-    let s = CATEGORY_1;
-    let made = signed(&s, &mut rng);
-    for turn in 0..120 {
-        let salt_c_h = 8 * (s.salt + 2 * s.digest);
-        let bit = if turn < 40 { rng.below(salt_c_h) } else { rng.below(8 * s.signature()) };
-        assert_ne!(verify(&s, &made.key, &made.message, &flipped(&made.signature, bit)), 0, "bit {bit}");
-    }
-    for bit in 0..8 * made.message.len().min(4) {
-        assert_ne!(verify(&s, &made.key, &flipped(&made.message, bit), &made.signature), 0);
-    }
-    for bit in (0..8 * s.key()).step_by(19) {
-        assert_ne!(verify(&s, &flipped(&made.key, bit), &made.message, &made.signature), 0, "bit {bit} of the key");
+    for (s, turns) in [(CATEGORY_1, 120), (CATEGORY_3, 21), (CATEGORY_5, 12)] {
+        let mut rng = Rng::new(12);
+        let made = signed(&s, &mut rng);
+        for turn in 0..turns {
+            let salt_c_h = 8 * (s.salt + 2 * s.digest);
+            let bit = if turn < turns / 3 { rng.below(salt_c_h) } else { rng.below(8 * s.signature()) };
+            assert_ne!(verify(&s, &made.key, &made.message, &flipped(&made.signature, bit)), 0, "bit {bit}");
+        }
+        for bit in (0..32).step_by(120 / turns) {
+            assert_ne!(verify(&s, &made.key, &flipped(&made.message, bit), &made.signature), 0);
+        }
+        for bit in (0..8 * s.key()).step_by(2280 / turns) {
+            assert_ne!(verify(&s, &flipped(&made.key, bit), &made.message, &made.signature), 0, "bit {bit} of the key");
+        }
     }
 }
 
@@ -72,7 +75,7 @@ fn answer(s: &Sizes, committed: &Committed, first: u8, second: u32, change: impl
 #[test]
 fn honest_replies_pass_and_open_the_key() {
     let mut rng = Rng::new(13);
-    for (s, turns) in [(CATEGORY_1, 5), (TINY, 300)] {
+    for (s, turns) in [(CATEGORY_1, 5), (CATEGORY_3, 3), (CATEGORY_5, 2), (TINY, 300)] {
         for _ in 0..turns {
             let replies = Committed::draw(&s, &mut rng);
             for second in [0, 1] {
@@ -89,11 +92,12 @@ fn honest_replies_pass_and_open_the_key() {
 #[test]
 fn the_examiner_refuses_in_order() {
     let mut rng = Rng::new(14);
-    let s = CATEGORY_1;
-    let replies = Committed::draw(&s, &mut rng);
-    for second in [0, 1] {
-        for (case, wanted) in faulty_rounds(&replies.case(&s, 9, second)) {
-            assert_eq!(verify_round(&s, &case), wanted, "{case:02x?}");
+    for s in CATEGORIES {
+        let replies = Committed::draw(&s, &mut rng);
+        for second in [0, 1] {
+            for (case, wanted) in faulty_rounds(&replies.case(&s, 9, second)) {
+                assert_eq!(verify_round(&s, &case), wanted, "{case:02x?}");
+            }
         }
     }
 }
@@ -101,13 +105,13 @@ fn the_examiner_refuses_in_order() {
 #[test]
 fn the_examiner_looks_at_no_reply_under_another_challenge() {
     let mut rng = Rng::new(15);
-    let replies = Committed::draw(&CATEGORY_1, &mut rng);
-    for second in [2, 3, 256, u32::MAX] {
-        for len in [0, 16, 160, 161] {
-            assert_eq!(
-                answer(&CATEGORY_1, &replies, 9, 0, |c| (c.second_challenge, c.reply) = (second, vec![0; len])),
-                3
-            );
+    for s in CATEGORIES {
+        let replies = Committed::draw(&s, &mut rng);
+        for second in [2, 3, 256, u32::MAX] {
+            for len in [0, s.reply(1), s.reply(0), s.reply(0) + 1] {
+                let answer = answer(&s, &replies, 9, 0, |c| (c.second_challenge, c.reply) = (second, vec![0; len]));
+                assert_eq!(answer, 3);
+            }
         }
     }
 }
@@ -115,16 +119,16 @@ fn the_examiner_looks_at_no_reply_under_another_challenge() {
 #[test]
 fn a_bad_field_in_a_reply_is_refused_before_the_digests() {
     let mut rng = Rng::new(16);
-    let replies = Committed::draw(&CATEGORY_1, &mut rng);
-    // a value of 127, a spare bit after the values, an exponent of 7, a spare bit after the exponents
-    let spoils: [Spoil; 4] =
-        [|c| c.reply[0] |= 0x7F, |c| c.reply[111] |= 0x80, |c| c.reply[112] |= 7, |c| c.reply[159] |= 0x80];
-    for spoil in spoils {
-        let both = |c: &mut RoundCase| {
-            spoil(c);
-            c.response[0] ^= 1;
-        };
-        assert_eq!(answer(&CATEGORY_1, &replies, 9, 0, both), 3);
+    for s in CATEGORIES {
+        let (replies, values) = (Committed::draw(&s, &mut rng), s.packed_values());
+        // a value of 127, a spare bit after the values, an exponent of 7, a spare bit after the exponents
+        for (at, bits) in [(0, 0x7F), (values - 1, 0x80), (values, 7), (s.reply(0) - 1, 0x80)] {
+            let both = |c: &mut RoundCase| {
+                c.reply[at] |= bits;
+                c.response[0] ^= 1;
+            };
+            assert_eq!(answer(&s, &replies, 9, 0, both), 3);
+        }
     }
 }
 
@@ -161,18 +165,20 @@ fn every_answer_is_reached() {
 #[test]
 fn wrong_sizes_are_refused_first() {
     let mut rng = Rng::new(18);
-    let s = CATEGORY_1;
-    let seed = |len: usize| vec![7; len];
-    let mut signature = vec![0; s.signature()];
-    let mut signing = |a, b, c, d| sign(&s, &seed(a), &seed(b), &seed(c), &seed(d), &mut signature);
-    for (a, b, c, d) in [(31, 16, 32, 0), (32, 17, 32, 0), (32, 16, 0, 0), (32, 16, 32, 65_537)] {
-        assert_eq!(signing(a, b, c, d), 1);
+    for s in CATEGORIES {
+        let seed = |len: usize| vec![7; len];
+        let mut signature = vec![0; s.signature()];
+        let mut signing = |a, b, c, d| sign(&s, &seed(a), &seed(b), &seed(c), &seed(d), &mut signature);
+        let (a, b, c) = (s.key_seed, s.round_seed, s.salt);
+        for (a, b, c, d) in [(a - 1, b, c, 0), (a, b + 1, c, 0), (a, b, 0, 0), (a, b, c, 65_537)] {
+            assert_eq!(signing(a, b, c, d), 1);
+        }
+        assert_eq!(sign(&s, &seed(a), &seed(b), &seed(c), b"", &mut vec![0; s.signature() + 1]), 1);
+        let made = signed(&s, &mut rng);
+        let bad_key = [&made.key[..s.key() - 1], &[0xFF]].concat();
+        assert_eq!(verify(&s, &bad_key, &made.message, &made.signature), 3);
+        assert_eq!(verify(&s, &bad_key, &made.message, &made.signature[1..]), 1);
+        assert_eq!(verify(&s, &bad_key[1..], &made.message, &made.signature), 1);
+        assert_eq!(verify(&s, &bad_key, &vec![0; 65_537], &made.signature), 1);
     }
-    assert_eq!(sign(&s, &seed(32), &seed(16), &seed(32), b"", &mut vec![0; s.signature() + 1]), 1);
-    let made = signed(&s, &mut rng);
-    let bad_key = [&made.key[..76], &[0xFF]].concat();
-    assert_eq!(verify(&s, &bad_key, &made.message, &made.signature), 3);
-    assert_eq!(verify(&s, &bad_key, &made.message, &made.signature[1..]), 1);
-    assert_eq!(verify(&s, &bad_key[1..], &made.message, &made.signature), 1);
-    assert_eq!(verify(&s, &bad_key, &vec![0; 65_537], &made.signature), 1);
 }

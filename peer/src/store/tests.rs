@@ -3,6 +3,7 @@
 use super::*;
 use crate::line::cases::valid;
 use crate::rng::Rng;
+use crate::sizes::CATEGORIES;
 
 fn device(profile: &Profile) -> Device<'_> {
     Device { country: &profile.country, class: u32::from(profile.class) }
@@ -87,21 +88,29 @@ fn another_device_is_refused() {
 
 #[test]
 fn a_made_package_loads() {
-    let mut rng = Rng::new(41);
-    let (private, master, salt) = (rng.bytes(32), rng.bytes(16), rng.bytes(32));
-    let (p, mut key, mut package) = (valid(&mut rng), vec![0; 77], vec![7; 19_224]);
-    let line = write_line(&p).unwrap();
-    assert_eq!(scheme::make_key(&S, &private, &mut key), 0);
-    let (answer, length) = make_package([&private, &master, &salt], &line, &mut package, 0);
-    assert_eq!((answer, length), (0, 19_152 + line.len()));
-    assert!(package[length..].iter().all(|&byte| byte == 7));
-    let mut image = vec![0; STORE];
-    let plain = |key: &[u8], message: &[u8], signature: &[u8]| scheme::verify(&S, key, message, signature);
-    assert_eq!(load(&mut image, &key, &package[..length], &device(&p), &plain), 0);
-    let mut out = [0; LONGEST];
-    assert_eq!(lookup(&image, &device(&p), &mut out, 0), (0, line.len()));
-    assert_eq!(out[..line.len()], line);
-    assert_eq!(load(&mut image, &key, &package[..length], &device(&p), &plain), 7);
-    assert_eq!(make_package([&private, &master, &salt[1..]], b"", &mut package, 5), (1, 5));
-    assert_eq!(make_package([&private, &master, &salt], &[b'x'; 50], &mut package, 5), (5, 5));
+    let (mut rng, mut out) = (Rng::new(41), [0; LONGEST]);
+    for s in CATEGORIES {
+        let [private, master, salt] = [s.key_seed, s.round_seed, s.salt].map(|len| rng.bytes(len));
+        let (p, mut key, mut package) = (valid(&mut rng), vec![0; s.key()], vec![7; s.signature() + 72]);
+        let line = write_line(&p).unwrap();
+        assert_eq!(scheme::make_key(&s, &private, &mut key), 0);
+        let (answer, length) = make_package(&s, [&private, &master, &salt], &line, &mut package, 0);
+        assert_eq!((answer, length), (0, s.signature() + line.len()));
+        assert!(package[length..].iter().all(|&byte| byte == 7));
+        let mut image = vec![0; STORE];
+        let plain = |key: &[u8], message: &[u8], signature: &[u8]| scheme::verify(&s, key, message, signature);
+        let mut load = |package: &[u8]| load(&s, &mut image, &key, package, &device(&p), &plain);
+        let short = s.signature() + 41;
+        assert_eq!([load(&package[..short]), load(&package[..length]), load(&package[..length])], [1, 0, 7]);
+        assert_eq!(lookup(&image, &device(&p), &mut out, 0), (0, line.len()));
+        assert_eq!(out[..line.len()], line);
+        assert_eq!(make_package(&s, [&private, &master, &salt[1..]], b"", &mut package, 5), (1, 5));
+        assert_eq!(make_package(&s, [&private, &master, &salt], &[b'x'; 50], &mut package, 5), (5, 5));
+    }
+}
+
+#[test]
+fn packages_have_the_lengths_of_the_paper() {
+    let lengths = CATEGORIES.map(|s| package_lengths(&s).into_inner());
+    assert_eq!(lengths, [(19_194, 19_224), (42_724, 42_754), (76_340, 76_370)]);
 }

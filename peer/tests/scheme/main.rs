@@ -1,5 +1,6 @@
-//! Keys, signatures, checks and the round examiner of category 1: the proved archive beside the
-//! independent program, on honest, damaged and forged inputs.
+//! Keys, signatures, checks and the round examiner of each category: the proved archive beside the
+//! independent program, on honest, damaged and forged inputs. Categories 3 and 5 get fewer of them,
+//! since each costs more there.
 
 mod agree;
 mod damaged;

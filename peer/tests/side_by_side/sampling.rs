@@ -1,17 +1,18 @@
 //! The draws of values, exponents and first challenges from a lent block.
 
+use peer::archive::samples::{self, Sample};
+use peer::archive::{Category, CATEGORIES};
 use peer::bits::{field_count, lay};
 use peer::draws::{Draw, EXPONENTS, FIRST_CHALLENGES, VALUES};
-use peer::harness::Comparison;
+use peer::harness::{Comparison, LEAST};
 use peer::rng::Rng;
-use peer::sizes::CATEGORY_1;
-use peer::{archive, entries};
 
-/// One entry: what it keeps, and its two fixed sizes.
+/// One entry: what it keeps, its two fixed sizes, and of how many inputs of each kind one is tried.
 struct Job {
     draw: Draw,
     block: usize,
     count: usize,
+    one_of: usize,
 }
 
 impl Job {
@@ -36,13 +37,19 @@ impl Job {
     }
 }
 
-/// Every length of block and output, one or both of them wrong; a wrong size comes before a short draw.
-pub fn wrong_sizes(c: &mut Comparison, block: usize, count: usize, good: &[u8]) {
+/// One of so many lengths to two above the right one, and all that are next to it or to 0.
+fn lengths(right: usize, one_of: usize) -> impl Iterator<Item = usize> {
+    let near = move |len: usize| len < 2 || len + 2 >= right;
+    (0..=right + 2).filter(move |&len| len != right && (near(len) || len % one_of == 0))
+}
+
+/// Lengths of block and output, one or both of them wrong; a wrong size comes before a short draw.
+pub fn wrong_sizes(c: &mut Comparison, (block, count): (usize, usize), good: &[u8], one_of: usize) {
     for fill in [0x00, 0xFF] {
-        for len in (0..=block + 2).filter(|&len| len != block) {
+        for len in lengths(block, one_of) {
             c.demand(&vec![fill; len], count, 1);
         }
-        for len in (0..=count + 2).filter(|&len| len != count) {
+        for len in lengths(count, one_of) {
             c.demand(&vec![fill; block], len, 1);
         }
     }
@@ -58,11 +65,11 @@ pub fn wrong_sizes(c: &mut Comparison, block: usize, count: usize, good: &[u8]) 
     c.demand(&good[..block - 1], count, 1);
 }
 
-/// Each field dropped alone, and dropped fields at the front up to and past the last that can be spared.
+/// Fields dropped alone, and dropped fields at the front up to and past the last that can be spared.
 fn dropped_fields(c: &mut Comparison, job: &Job, rng: &mut Rng) {
     let fields = job.fields();
     let spared = fields - job.count;
-    for at in 0..fields {
+    for at in (0..fields).filter(|at| at % job.one_of == 0 || *at == fields - 1) {
         c.demand(&job.block(rng, |i| i == at), job.count, 0);
     }
     for front in [1, 2, spared - 1, spared, spared + 1, spared + 2, fields] {
@@ -102,40 +109,51 @@ fn tight_blocks(c: &mut Comparison, job: &Job, rng: &mut Rng, turns: usize) {
     }
 }
 
-fn compare(mut c: Comparison, job: Job) {
+fn compare(c: &mut Comparison, job: &Job) {
     let mut rng = Rng::new(0x7361_6D70);
     let good = job.block(&mut rng, |_| false);
-    wrong_sizes(&mut c, job.block, job.count, &good);
-    dropped_fields(&mut c, &job, &mut rng);
-    tight_blocks(&mut c, &job, &mut rng, 3_000);
-    for _ in 0..100_000 {
+    wrong_sizes(c, (job.block, job.count), &good, job.one_of);
+    dropped_fields(c, job, &mut rng);
+    tight_blocks(c, job, &mut rng, 3_000 / job.one_of);
+    for _ in 0..LEAST / job.one_of {
         c.agree(&rng.bytes(job.block), job.count);
     }
-    c.finish(&[0, 1, 2]);
+}
+
+/// What is tried at a category is one of so many: all at category 1, fewer elsewhere.
+pub fn one_of(category: &Category, elsewhere: usize) -> usize {
+    if category.number == 1 {
+        1
+    } else {
+        elsewhere
+    }
+}
+
+fn compare_all(sample: Sample, draw: Draw, elsewhere: usize) {
+    for category in CATEGORIES {
+        let ((block, count), one_of) = ((sample.lengths)(&category.sizes), one_of(&category, elsewhere));
+        let mut c = sample.comparison(category, category.named(sample.name)).at_least(LEAST / one_of);
+        compare(&mut c, &Job { draw, block, count, one_of });
+        c.finish(&[0, 1, 2]);
+    }
 }
 
 #[test]
 fn sample_matrix() {
-    let job = Job { draw: VALUES, block: CATEGORY_1.matrix_block, count: CATEGORY_1.matrix() };
-    compare(Comparison::new("sample_matrix", archive::sample_matrix, entries::sample_matrix), job);
+    compare_all(samples::MATRIX, VALUES, 50);
 }
 
 #[test]
 fn sample_exponents() {
-    let job = Job { draw: EXPONENTS, block: CATEGORY_1.exponents_block, count: CATEGORY_1.n };
-    compare(Comparison::new("sample_exponents", archive::sample_exponents, entries::sample_exponents), job);
+    compare_all(samples::EXPONENTS, EXPONENTS, 5);
 }
 
 #[test]
 fn sample_mask_values() {
-    let job = Job { draw: VALUES, block: CATEGORY_1.mask_values_block, count: CATEGORY_1.n };
-    compare(Comparison::new("sample_mask_values", archive::sample_mask_values, entries::sample_mask_values), job);
+    compare_all(samples::MASK_VALUES, VALUES, 5);
 }
 
 #[test]
 fn sample_first_challenges() {
-    let job = Job { draw: FIRST_CHALLENGES, block: CATEGORY_1.first_challenges_block, count: CATEGORY_1.t };
-    let c =
-        Comparison::new("sample_first_challenges", archive::sample_first_challenges, entries::sample_first_challenges);
-    compare(c, job);
+    compare_all(samples::FIRST_CHALLENGES, FIRST_CHALLENGES, 5);
 }

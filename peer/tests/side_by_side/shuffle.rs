@@ -1,18 +1,28 @@
 //! The draw of the second challenge.
 
-use crate::sampling::{scattered, wrong_sizes};
+use crate::sampling::{one_of, scattered, wrong_sizes};
+use peer::archive::samples::SECOND_CHALLENGE;
+use peer::archive::CATEGORIES;
 use peer::draws::shuffle_limit;
-use peer::harness::Comparison;
+use peer::harness::{Comparison, LEAST};
 use peer::rng::Rng;
-use peer::sizes::CATEGORY_1;
-use peer::{archive, entries};
 
-const BLOCK: usize = CATEGORY_1.second_challenge_block;
-const COUNT: usize = CATEGORY_1.t;
-const FIELDS: usize = BLOCK / 2;
+/// The sizes of the entry.
+struct Job {
+    block: usize,
+    count: usize,
+}
 
-/// Fields that can be spared: each of the positions from the last to the second takes one.
-const SPARED: usize = FIELDS - (COUNT - 1);
+impl Job {
+    fn fields(&self) -> usize {
+        self.block / 2
+    }
+
+    /// Fields that can be spared: each of the positions from the last to the second takes one.
+    fn spared(&self) -> usize {
+        self.fields() - (self.count - 1)
+    }
+}
 
 /// A field that is kept at position j: often one next to a bound.
 fn kept(rng: &mut Rng, j: usize) -> u32 {
@@ -38,9 +48,9 @@ fn dropped(rng: &mut Rng, j: usize) -> u32 {
 /// A block that has `drops` dropped fields, placed as `wish` says where a field can be dropped at all
 /// (not where j + 1 is a power of two, as at the last exchange), the rest as soon as it can. Returns
 /// the block and the number of its dropped fields.
-fn block(rng: &mut Rng, drops: usize, wish: &[bool]) -> (Vec<u8>, usize) {
+fn block(job: &Job, rng: &mut Rng, drops: usize, wish: &[bool]) -> (Vec<u8>, usize) {
     let mut fields = Vec::new();
-    let (mut j, mut wished, mut done) = (COUNT - 1, 0, 0);
+    let (mut j, mut wished, mut done) = (job.count - 1, 0, 0);
     for &drop in wish {
         wished += usize::from(drop);
         if j == 0 {
@@ -57,50 +67,54 @@ fn block(rng: &mut Rng, drops: usize, wish: &[bool]) -> (Vec<u8>, usize) {
 }
 
 /// Drops at the front up to and past the last that can be spared.
-fn dropped_at_the_front(c: &mut Comparison, rng: &mut Rng) {
-    for drops in 0..=FIELDS {
-        let (bytes, done) = block(rng, drops, &[true; FIELDS]);
+fn dropped_at_the_front(c: &mut Comparison, job: &Job, rng: &mut Rng) {
+    for drops in 0..=job.fields() {
+        let (bytes, done) = block(job, rng, drops, &vec![true; job.fields()]);
         assert_eq!(done, drops);
-        c.demand(&bytes, COUNT, if drops <= SPARED { 0 } else { 2 });
+        c.demand(&bytes, job.count, if drops <= job.spared() { 0 } else { 2 });
     }
 }
 
 /// Drops at random: as many as can be spared, so that the last field decides, or about as many.
-fn tight_blocks(c: &mut Comparison, rng: &mut Rng, turns: usize) {
+fn tight_blocks(c: &mut Comparison, job: &Job, rng: &mut Rng, turns: usize) {
+    let spared = job.spared();
     for turn in 0..turns {
-        let drops = if turn % 2 == 0 { SPARED + turn / 2 % 2 } else { SPARED + rng.below(5) - 2 };
-        let wish = scattered(rng, FIELDS - 10, drops);
+        let drops = if turn % 2 == 0 { spared + turn / 2 % 2 } else { spared + rng.below(5) - 2 };
+        let wish = scattered(rng, job.fields() - 10, drops);
         let wish: Vec<bool> = wish.into_iter().chain([false; 10]).collect();
-        let (bytes, done) = block(rng, drops, &wish);
-        c.demand(&bytes, COUNT, if done <= SPARED { 0 } else { 2 });
+        let (bytes, done) = block(job, rng, drops, &wish);
+        c.demand(&bytes, job.count, if done <= spared { 0 } else { 2 });
     }
 }
 
 /// One dropped field alone at every position that can have one, by its least and greatest field.
-fn dropped_alone(c: &mut Comparison, rng: &mut Rng) {
-    for at in 0..COUNT - 1 {
-        for _ in 0..20 {
-            let wish: Vec<bool> = (0..FIELDS).map(|i| i == at).collect();
-            let (bytes, _) = block(rng, 1, &wish);
-            c.demand(&bytes, COUNT, 0);
+fn dropped_alone(c: &mut Comparison, job: &Job, rng: &mut Rng, times: usize) {
+    for at in 0..job.count - 1 {
+        for _ in 0..times {
+            let wish: Vec<bool> = (0..job.fields()).map(|i| i == at).collect();
+            let (bytes, _) = block(job, rng, 1, &wish);
+            c.demand(&bytes, job.count, 0);
         }
     }
 }
 
 #[test]
 fn sample_second_challenge() {
-    let entry = (archive::sample_second_challenge, entries::sample_second_challenge);
-    let mut c = Comparison::new("sample_second_challenge", entry.0, entry.1);
-    let mut rng = Rng::new(0x7368_7566);
-    let (good, _) = block(&mut rng, 0, &[false; FIELDS]);
-    wrong_sizes(&mut c, BLOCK, COUNT, &good);
-    c.demand(&[0; BLOCK], COUNT, 0);
-    c.agree(&[0xFF; BLOCK], COUNT);
-    dropped_at_the_front(&mut c, &mut rng);
-    dropped_alone(&mut c, &mut rng);
-    tight_blocks(&mut c, &mut rng, 50_000);
-    for _ in 0..c.missing().max(50_000) {
-        c.agree(&rng.bytes(BLOCK), COUNT);
+    for category in CATEGORIES {
+        let ((block_len, count), one_of) = ((SECOND_CHALLENGE.lengths)(&category.sizes), one_of(&category, 5));
+        let (job, mut rng) = (Job { block: block_len, count }, Rng::new(0x7368_7566));
+        let name = category.named(SECOND_CHALLENGE.name);
+        let mut c = SECOND_CHALLENGE.comparison(category, name).at_least(LEAST / one_of);
+        let (good, _) = block(&job, &mut rng, 0, &vec![false; job.fields()]);
+        wrong_sizes(&mut c, (job.block, job.count), &good, one_of);
+        c.demand(&vec![0; job.block], job.count, 0);
+        c.agree(&vec![0xFF; job.block], job.count);
+        dropped_at_the_front(&mut c, &job, &mut rng);
+        dropped_alone(&mut c, &job, &mut rng, 20 / one_of);
+        tight_blocks(&mut c, &job, &mut rng, 50_000 / one_of);
+        for _ in 0..c.missing().max(50_000 / one_of) {
+            c.agree(&rng.bytes(job.block), job.count);
+        }
+        c.finish(&[0, 1, 2]);
     }
-    c.finish(&[0, 1, 2]);
 }

@@ -1,19 +1,11 @@
 //! One store, held as an image by the archive and by the independent program.
 
-use peer::archive;
-use peer::fast;
+use peer::archive::{self, Category};
 use peer::harness::{Lent, Tally};
 use peer::line::{read_line, write_line, Profile, LONGEST};
 use peer::rng::Rng;
 use peer::scheme;
-use peer::sizes::{Sizes, CATEGORY_1};
 use peer::store::{self, wrote_one_slot, Device, Store, Verify, STORE};
-
-pub const S: Sizes = CATEGORY_1;
-
-/// The shortest and the longest package.
-pub const SHORTEST_PACKAGE: usize = 19_194;
-pub const LONGEST_PACKAGE: usize = 19_224;
 
 /// Few countries, so that pairs come again; with four classes they are more pairs than fit.
 pub const COUNTRIES: [&[u8; 2]; 6] = [b"XA", b"XB", b"XC", b"XD", b"XE", b"AX"];
@@ -22,9 +14,6 @@ pub const COUNTRIES: [&[u8; 2]; 6] = [b"XA", b"XB", b"XC", b"XD", b"XE", b"AX"];
 pub fn devices() -> impl Iterator<Item = Device<'static>> {
     COUNTRIES.into_iter().flat_map(|country| (65..69).map(move |class| Device { country, class }))
 }
-
-/// The clear checker of the independent program.
-pub const CLEAR: Verify = &|key, message, signature| scheme::verify(&S, key, message, signature);
 
 /// A key and a package.
 #[derive(Clone, Copy)]
@@ -35,25 +24,28 @@ pub struct Sent<'a> {
 
 impl Sent<'_> {
     fn shown(&self) -> String {
-        let line = &self.package[S.signature().min(self.package.len())..];
-        format!("{} bytes of a key, line {:?}", self.key.len(), String::from_utf8_lossy(line))
+        let Sent { key, package } = self;
+        let end = String::from_utf8_lossy(&package[package.len().saturating_sub(LONGEST)..]);
+        format!("{} bytes of a key, {} of a package that ends in {end:?}", key.len(), package.len())
     }
 }
 
-/// The images of both, which mean the same store. The slots' order is the program's choice.
+/// The images of both, which mean the same store, of a device of one category. The slots' order is the
+/// program's choice.
 pub struct Both {
+    category: Category,
     proved: Vec<u8>,
     plain: Vec<u8>,
 }
 
 impl Both {
     /// Both start from the same image.
-    pub fn from(image: &[u8]) -> Both {
-        Both { proved: image.to_vec(), plain: image.to_vec() }
+    pub fn from(category: &Category, image: &[u8]) -> Both {
+        Both { category: *category, proved: image.to_vec(), plain: image.to_vec() }
     }
 
-    pub fn empty() -> Both {
-        Both::from(&[0; STORE])
+    pub fn empty(category: &Category) -> Both {
+        Both::from(category, &[0; STORE])
     }
 
     pub fn stored(&self) -> Vec<Profile> {
@@ -63,22 +55,35 @@ impl Both {
     /// Loads in both, where `verify` judges for the independent program. Both stores mean the same
     /// after it; a refusal leaves every byte as it was.
     pub fn load(&mut self, t: &mut Tally, sent: Sent, device: &Device, verify: Verify) -> u8 {
+        let s = self.category.sizes;
         let shown = || format!("{device:?}, {}", sent.shown());
         let mut lent = Lent::holding(&self.proved, t.inputs());
         let (key, package) = (sent.key.to_vec(), sent.package.to_vec());
-        let answer = archive::load(lent.part(), &key, &package, device);
+        let answer = self.category.load(lent.part(), &key, &package, device);
         assert!(key == sent.key && package == sent.package, "inputs of load, {}", shown());
-        let expected = store::load(&mut self.plain, sent.key, sent.package, device, verify);
+        let expected = store::load(&s, &mut self.plain, sent.key, sent.package, device, verify);
         if answer != 0 {
             assert!(lent.content() == self.proved, "after a refused load, {}", shown());
         } else {
-            let profile = read_line(&sent.package[S.signature()..]).expect("a line that was loaded");
+            let profile = read_line(&sent.package[s.signature()..]).expect("a line that was loaded");
             assert!(wrote_one_slot(&self.proved, lent.content(), &profile), "slots after a load, {}", shown());
         }
         self.proved = lent.content().to_vec();
         t.count(answer, expected, shown);
         assert_eq!(Store::from_image(&self.proved).sorted(), self.stored(), "after load, {}", shown());
         answer
+    }
+
+    /// Loads, where the clear checker judges.
+    pub fn load_clear(&mut self, t: &mut Tally, sent: Sent, device: &Device) -> u8 {
+        let s = self.category.sizes;
+        self.load(t, sent, device, &|key, message, signature| scheme::verify(&s, key, message, signature))
+    }
+
+    /// Loads, where the fast checker judges.
+    pub fn load_fast(&mut self, t: &mut Tally, sent: Sent, device: &Device) -> u8 {
+        let verify = self.category.plain.verify;
+        self.load(t, sent, device, &verify)
     }
 
     /// Looks up in both, with `room` bytes lent for the line.
@@ -106,22 +111,24 @@ impl Both {
 
 /// A signer, with the fast program: a test needs many packages.
 pub struct Signer {
+    category: Category,
     pub private_seed: Vec<u8>,
     pub key: Vec<u8>,
 }
 
 impl Signer {
-    pub fn new(rng: &mut Rng) -> Signer {
-        let (private_seed, mut key) = (rng.bytes(S.key_seed), vec![0; S.key()]);
-        assert_eq!(fast::scheme::make_key(&private_seed, &mut key), 0);
-        Signer { private_seed, key }
+    pub fn new(category: &Category, rng: &mut Rng) -> Signer {
+        let (private_seed, mut key) = (rng.bytes(category.sizes.key_seed), vec![0; category.sizes.key()]);
+        assert_eq!((category.plain.make_key)(&private_seed, &mut key), 0);
+        Signer { category: *category, private_seed, key }
     }
 
     /// The package of any line, also of one that breaks a rule.
     pub fn package(&self, rng: &mut Rng, line: &[u8]) -> Vec<u8> {
-        let mut package = vec![0; S.signature()];
-        let (master, salt) = (rng.bytes(S.round_seed), rng.bytes(S.salt));
-        assert_eq!(fast::scheme::sign(&self.private_seed, &master, &salt, line, &mut package), 0);
+        let (sign, s) = (self.category.plain.sign, self.category.sizes);
+        let mut package = vec![0; s.signature()];
+        let (master, salt) = (rng.bytes(s.round_seed), rng.bytes(s.salt));
+        assert_eq!(sign(&self.private_seed, &master, &salt, line, &mut package), 0);
         package.extend_from_slice(line);
         package
     }

@@ -1,6 +1,7 @@
 //! Images that no run of the library made: every image means some store.
 
 use crate::both::{device_of, Both, Sent, Signer, COUNTRIES};
+use peer::archive::{Category, CATEGORIES, CATEGORY_1};
 use peer::harness::Tally;
 use peer::line::cases::{any_image, valid};
 use peer::line::{Profile, IMAGE};
@@ -24,36 +25,43 @@ fn any_store(rng: &mut Rng) -> Vec<u8> {
     bytes
 }
 
-/// Every pair is looked up in 4,000 images. A stored profile that breaks a rule is not written.
+/// Every pair is looked up in 4,000 images. A stored profile that breaks a rule is not written. Lookups
+/// know no category.
 #[test]
 fn lookups() {
     let (mut t, mut rng) = (Tally::new("lookup, any image"), Rng::new(0x696D_6167));
     for _ in 0..4_000 {
-        Both::from(&any_store(&mut rng)).find_all(&mut t);
+        Both::from(&CATEGORY_1, &any_store(&mut rng)).find_all(&mut t);
     }
     t.finish(96_000, &[0, 5, 9]);
 }
 
-/// Four packages are loaded into each of 1,000 images; after each every pair is looked up.
-#[test]
-fn loads() {
-    let (mut loads, mut finds) = (Tally::new("load, any image"), Tally::new("lookup, any image after a load"));
+/// Four packages are loaded into each of so many images; after each every pair is looked up.
+fn loads_at(category: &Category, images: usize) {
+    let (mut loads, mut finds) = (category.tally("load, any image"), category.tally("lookup, any image after a load"));
     let mut rng = Rng::new(0x6C6F_6164);
-    let signer = Signer::new(&mut rng);
+    let signer = Signer::new(category, &mut rng);
     let post = |rng: &mut Rng, turn: usize| {
         let serial = [1, 2, 3, 4, u32::MAX][rng.below(5)];
         let profile = Profile { country: *COUNTRIES[turn % 6], serial, ..valid(rng) };
         (profile, signer.package_of(rng, &profile))
     };
     let posts: Vec<_> = (0..120).map(|turn| post(&mut rng, turn)).collect();
-    for _ in 0..1_000 {
-        let mut both = Both::from(&any_store(&mut rng));
+    for _ in 0..images {
+        let mut both = Both::from(category, &any_store(&mut rng));
         for _ in 0..4 {
             let (profile, package) = &posts[rng.below(posts.len())];
             both.load(&mut loads, Sent { key: &signer.key, package }, &device_of(profile), &|_, _, _| 0);
             both.find_all(&mut finds);
         }
     }
-    loads.finish(4_000, &[0, 7, 8]);
-    finds.finish(96_000, &[0, 5, 9]);
+    loads.finish(4 * images, &[0, 7, 8]);
+    finds.finish(96 * images, &[0, 5, 9]);
+}
+
+#[test]
+fn loads() {
+    for (category, images) in CATEGORIES.iter().zip([1_000, 150, 100]) {
+        loads_at(category, images);
+    }
 }

@@ -1,5 +1,6 @@
-//! Packages, loading and lookups through C, beside the independent program: runs of calls on one
-//! store image, step by step, images of any bytes, and every pair of refusals.
+//! Packages, loading and lookups through C, beside the independent program, at each category: runs of
+//! calls on one store image, step by step, images of any bytes, and every pair of refusals. Categories
+//! 3 and 5 get fewer calls, since each costs more there.
 
 mod both;
 mod images;

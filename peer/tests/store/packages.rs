@@ -1,26 +1,33 @@
 //! Making packages.
 
-use crate::both::{device_of, Both, Sent, CLEAR, LONGEST_PACKAGE, S, SHORTEST_PACKAGE};
-use peer::archive;
+use crate::both::{device_of, Both, Sent};
+use peer::archive::{Category, CATEGORIES};
 use peer::harness::Tally;
 use peer::line::cases::valid;
 use peer::line::{read_line, write_line};
 use peer::rng::Rng;
-use peer::store::make_package;
+use peer::scheme;
+use peer::store::{make_package, package_lengths, Device};
 
 type Seeds = [Vec<u8>; 3];
 
-fn compare(t: &mut Tally, seeds: &Seeds, line: &[u8], room: usize) -> u8 {
+fn compare(category: &Category, t: &mut Tally, seeds: &Seeds, line: &[u8], room: usize) -> u8 {
     let seeds = [&seeds[0][..], &seeds[1], &seeds[2]];
     let old = t.inputs().wrapping_mul(0x9E37_79B9);
     let shown = || format!("{seeds:02x?} {:?} into {room} bytes", String::from_utf8_lossy(line));
-    let proved = |out: &mut [u8]| archive::make_package(seeds, line, out, old);
-    t.both(room, proved, |out| make_package(seeds, line, out, old), shown)
+    let proved = |out: &mut [u8]| category.make_package(seeds, line, out, old);
+    t.both(room, proved, |out| make_package(&category.sizes, seeds, line, out, old), shown)
 }
 
 /// Private seed, master seed, salt.
-fn seeds(rng: &mut Rng) -> Seeds {
-    [rng.bytes(S.key_seed), rng.bytes(S.round_seed), rng.bytes(S.salt)]
+fn seeds(category: &Category, rng: &mut Rng) -> Seeds {
+    let s = category.sizes;
+    [s.key_seed, s.round_seed, s.salt].map(|len| rng.bytes(len))
+}
+
+/// The bytes that making a package wants.
+fn room(category: &Category) -> usize {
+    *package_lengths(&category.sizes).end()
 }
 
 /// Lines that have a line's length or not, each with what is due where all else is right.
@@ -29,11 +36,10 @@ fn lines(good: &[u8]) -> Vec<(Vec<u8>, u8)> {
     [(good.to_vec(), 0)].into_iter().chain(noise).collect()
 }
 
-/// Every choice of short, right and long for each buffer, with every line.
-#[test]
-fn sizes() {
-    let (mut t, mut rng) = (Tally::new("make_package, sizes"), Rng::new(3));
-    let (whole, good) = (seeds(&mut rng), write_line(&valid(&mut rng)).expect("valid"));
+/// Every choice of short, right and long for each buffer, with every line; and other lengths.
+fn sizes_at(category: &Category) {
+    let (mut t, mut rng, room) = (category.tally("make_package, sizes"), Rng::new(3), room(category));
+    let (whole, good) = (seeds(category, &mut rng), write_line(&valid(&mut rng)).expect("valid"));
     for choice in 0..81usize {
         let how = [choice % 3, choice / 3 % 3, choice / 9 % 3, choice / 27];
         let mut parts = whole.clone();
@@ -42,64 +48,100 @@ fn sizes() {
         }
         for (line, otherwise) in lines(&good) {
             let wanted = if how == [1; 4] { otherwise } else { 1 };
-            assert_eq!(compare(&mut t, &parts, &line, LONGEST_PACKAGE + how[3] - 1), wanted);
+            assert_eq!(compare(category, &mut t, &parts, &line, room + how[3] - 1), wanted);
         }
     }
-    for len in [0, 1, 64, S.signature(), SHORTEST_PACKAGE, LONGEST_PACKAGE, 2 * LONGEST_PACKAGE] {
+    let s = category.sizes;
+    for len in [0, 1, 2 * s.key_seed, s.signature(), *package_lengths(&s).start(), room, 2 * room] {
         for at in 0..3 {
             let mut parts = whole.clone();
             parts[at].resize(len, 0);
-            assert_eq!(compare(&mut t, &parts, &good, LONGEST_PACKAGE), 1);
+            assert_eq!(compare(category, &mut t, &parts, &good, room), 1);
         }
-        let wanted = u8::from(len != LONGEST_PACKAGE);
-        assert_eq!(compare(&mut t, &whole, &good, len), wanted);
+        let wanted = u8::from(len != room);
+        assert_eq!(compare(category, &mut t, &whole, &good, len), wanted);
     }
     t.finish(676, &[0, 1, 5]);
 }
 
-/// Loads what the archive makes of a valid line, under the key of its seed.
-fn load_made(t: &mut Tally, seeds: &Seeds, line: &[u8]) -> usize {
-    let (mut key, mut package) = (vec![0; S.key()], vec![0; LONGEST_PACKAGE]);
-    assert_eq!(peer::scheme::make_key(&S, &seeds[0], &mut key), 0);
-    let (answer, length) = archive::make_package([&seeds[0], &seeds[1], &seeds[2]], line, &mut package, 0);
-    assert_eq!((answer, length), (0, S.signature() + line.len()));
-    let (mut both, profile) = (Both::empty(), read_line(line).expect("valid"));
-    let sent = Sent { key: &key, package: &package[..length] };
-    assert_eq!(both.load(t, sent, &device_of(&profile), CLEAR), 0);
-    assert_eq!(both.stored(), [profile]);
-    length
+#[test]
+fn sizes() {
+    CATEGORIES.iter().for_each(sizes_at);
 }
 
-/// Packages of valid lines, each of which loads, and of lines with a byte changed.
-#[test]
-fn packages() {
-    let (mut t, mut loads, mut rng) = (Tally::new("make_package"), Tally::new("load, made packages"), Rng::new(4));
-    for turn in 0..300 {
-        let (parts, mut line) = (seeds(&mut rng), write_line(&valid(&mut rng)).expect("valid"));
+/// The key of a seed, and what the archive makes of a valid line.
+fn made(category: &Category, seeds: &Seeds, line: &[u8]) -> (Vec<u8>, Vec<u8>) {
+    let (s, mut package) = (category.sizes, vec![0; room(category)]);
+    let mut key = vec![0; s.key()];
+    assert_eq!(scheme::make_key(&s, &seeds[0], &mut key), 0);
+    let (answer, length) = category.make_package([&seeds[0], &seeds[1], &seeds[2]], line, &mut package, 0);
+    assert_eq!((answer, length), (0, s.signature() + line.len()));
+    package.truncate(length);
+    (key, package)
+}
+
+/// Loads what the archive makes of a valid line, and looks it up.
+fn load_made(category: &Category, t: &mut Tally, finds: &mut Tally, seeds: &Seeds, line: &[u8]) {
+    let (key, package) = made(category, seeds, line);
+    let (mut both, profile) = (Both::empty(category), read_line(line).expect("valid"));
+    let (sent, device) = (Sent { key: &key, package: &package }, device_of(&profile));
+    assert_eq!(both.load_clear(t, sent, &device), 0);
+    assert_eq!(both.stored(), [profile]);
+    assert_eq!(both.find(finds, &device), 0);
+}
+
+/// Packages of valid lines, each of which loads and is found, and of lines with a byte changed.
+fn packages_at(category: &Category, turns: usize) {
+    let [mut t, mut loads, mut finds] =
+        ["make_package", "load, made packages", "lookup, made packages"].map(|what| category.tally(what));
+    let mut rng = Rng::new(4);
+    for turn in 0..turns {
+        let (parts, mut line) = (seeds(category, &mut rng), write_line(&valid(&mut rng)).expect("valid"));
         if turn % 3 == 2 {
             line[rng.below(50).min(41)] = rng.below(256) as u8;
         }
-        if compare(&mut t, &parts, &line, LONGEST_PACKAGE) == 0 {
-            load_made(&mut loads, &parts, &line);
+        if compare(category, &mut t, &parts, &line, room(category)) == 0 {
+            load_made(category, &mut loads, &mut finds, &parts, &line);
         }
     }
-    t.finish(300, &[0, 5]);
-    loads.finish(200, &[0]);
+    t.finish(turns, &[0, 5]);
+    loads.finish(turns * 2 / 3, &[0]);
+    finds.finish(turns * 2 / 3, &[0]);
 }
 
-/// The shortest and the longest line there is.
+#[test]
+fn packages() {
+    for (category, turns) in CATEGORIES.iter().zip([300, 45, 30]) {
+        packages_at(category, turns);
+    }
+}
+
+/// The shortest and the longest line there is, with the lengths of their packages at each category.
+const ENDS: [(&[u8], [usize; 3]); 2] = [
+    (b"GP1,XA,A,1,100,50,1001,20,1,20,1,20,-1,20\n", [19_194, 42_724, 76_340]),
+    (b"GP1,XA,D,4294967295,1000,50,1500,60000,999,60000,5000,60000,-5000,60000\n", [19_224, 42_754, 76_370]),
+];
+
+/// The packages of both lines load; a byte less than the shorter and a byte more than the longer are 1.
 #[test]
 fn ends() {
-    let (mut t, mut loads, mut rng) = (Tally::new("make_package, ends"), Tally::new("load, ends"), Rng::new(5));
-    let ends: [(&[u8], usize); 2] = [
-        (b"GP1,XA,A,1,100,50,1001,20,1,20,1,20,-1,20\n", SHORTEST_PACKAGE),
-        (b"GP1,XA,D,4294967295,1000,50,1500,60000,999,60000,5000,60000,-5000,60000\n", LONGEST_PACKAGE),
-    ];
-    for (line, length) in ends {
-        let parts = seeds(&mut rng);
-        assert_eq!(compare(&mut t, &parts, line, LONGEST_PACKAGE), 0);
-        assert_eq!(load_made(&mut loads, &parts, line), length);
+    for (at, category) in CATEGORIES.iter().enumerate() {
+        let [mut t, mut loads, mut finds] =
+            ["make_package, ends", "load, ends", "lookup, ends"].map(|what| category.tally(what));
+        let mut rng = Rng::new(5);
+        for (line, lengths) in ENDS {
+            let parts = seeds(category, &mut rng);
+            assert_eq!(compare(category, &mut t, &parts, line, room(category)), 0);
+            load_made(category, &mut loads, &mut finds, &parts, line);
+            let (key, package) = made(category, &parts, line);
+            assert_eq!(package.len(), lengths[at]);
+            let outside =
+                if line.len() == 42 { package[..package.len() - 1].to_vec() } else { [&package[..], b"\n"].concat() };
+            let device = Device { country: b"XA", class: u32::from(line[7]) };
+            assert_eq!(Both::empty(category).load_fast(&mut loads, Sent { key: &key, package: &outside }, &device), 1);
+        }
+        t.finish(2, &[0]);
+        loads.finish(4, &[0, 1]);
+        finds.finish(2, &[0]);
     }
-    t.finish(2, &[0]);
-    loads.finish(2, &[0]);
 }

@@ -1,13 +1,15 @@
 //! Every pair of refusals that one input can have: the earlier wins. And the worked cases.
 
-use crate::both::{device_of, Both, Sent, Signer, CLEAR, S};
+use crate::both::{device_of, Both, Sent, Signer};
+use peer::archive::{Category, CATEGORIES, CATEGORY_1};
 use peer::harness::Tally;
 use peer::line::cases::valid;
 use peer::line::{image, read_line, Profile};
 use peer::rng::Rng;
 use peer::scheme::challenges;
 use peer::scheme::forge::Forger;
-use peer::store::{Device, STORE};
+use peer::sizes::Sizes;
+use peer::store::{package_lengths, Device, STORE};
 
 const LINE: &[u8] = b"GP1,XA,B,12,230,50,1150,100,800,1500,1500,100,-2500,100\n";
 /// The same at a frequency that there is not, of another class, with a byte after the line feed, and
@@ -29,13 +31,17 @@ enum Claim {
 
 const CLAIMS: [Claim; 3] = [Claim::Honest, Claim::AnyC, Claim::AnyH];
 
+/// One change in a package.
+type Damage = fn(&Sizes, &mut Vec<u8>);
+
 #[derive(Clone)]
 struct Input {
+    sizes: Sizes,
     image: Vec<u8>,
     key: Vec<u8>,
     line: &'static [u8],
     claim: Claim,
-    damage: Vec<fn(&mut Vec<u8>)>,
+    damage: Vec<Damage>,
     room: Option<usize>,
     country: &'static [u8],
     class: u32,
@@ -66,15 +72,15 @@ fn full(last: Profile) -> Vec<u8> {
 }
 
 /// The part of the first round with second challenge 0: response, transformation, commitment.
-fn zero_part(package: &mut [u8]) -> &mut [u8] {
-    let (signature, line) = package.split_at(S.signature());
-    let (_, second) = challenges(&S, line, signature).expect("no short draw");
+fn zero_part<'a>(s: &Sizes, package: &'a mut [u8]) -> &'a mut [u8] {
+    let (signature, line) = package.split_at(s.signature());
+    let (_, second) = challenges(s, line, signature).expect("no short draw");
     let ones = second.iter().take_while(|&&challenge| challenge == 1).count();
-    let start = S.salt + 2 * S.digest + ones * S.part(1);
-    &mut package[start..start + S.part(0)]
+    let start = s.salt + 2 * s.digest + ones * s.part(1);
+    &mut package[start..start + s.part(0)]
 }
 
-fn damaged(i: &mut Input, damage: fn(&mut Vec<u8>)) {
+fn damaged(i: &mut Input, damage: Damage) {
     i.damage.push(damage);
 }
 
@@ -98,20 +104,20 @@ const FAULTS: [Fault; 42] = [
     (1, "image", |i| i.image.truncate(1_023)),
     (1, "image", |i| i.image.push(0)),
     (1, "image", |i| i.image.clear()),
-    (1, "key size", |i| i.key.truncate(76)),
+    (1, "key size", |i| i.key.truncate(i.sizes.key() - 1)),
     (1, "key size", |i| i.key.push(0)),
     (1, "key size", |i| i.key.clear()),
-    (1, "package size", |i| i.room = Some(19_193)),
-    (1, "package size", |i| i.room = Some(19_225)),
-    (1, "package size", |i| i.room = Some(19_152)),
+    (1, "package size", |i| i.room = Some(package_lengths(&i.sizes).start() - 1)),
+    (1, "package size", |i| i.room = Some(package_lengths(&i.sizes).end() + 1)),
+    (1, "package size", |i| i.room = Some(i.sizes.signature())),
     (1, "package size", |i| i.room = Some(0)),
-    (3, "key", |i| i.key[76] |= 0x80),
-    (3, "key", |i| i.key[32] |= 0x7F),
-    (3, "y", |i| damaged(i, |p| zero_part(p)[0] |= 0x7F)),
-    (3, "y", |i| damaged(i, |p| zero_part(p)[111] |= 0x80)),
-    (3, "sigma", |i| damaged(i, |p| zero_part(p)[112] |= 7)),
-    (3, "sigma", |i| damaged(i, |p| zero_part(p)[159] |= 0x80)),
-    (4, "end", |i| damaged(i, |p| p[19_151] ^= 1)),
+    (3, "key", |i| i.key[i.sizes.key() - 1] |= 0x80),
+    (3, "key", |i| i.key[i.sizes.key_seed] |= 0x7F),
+    (3, "y", |i| damaged(i, |s, p| zero_part(s, p)[0] |= 0x7F)),
+    (3, "y", |i| damaged(i, |s, p| zero_part(s, p)[s.packed_values() - 1] |= 0x80)),
+    (3, "sigma", |i| damaged(i, |s, p| zero_part(s, p)[s.packed_values()] |= 7)),
+    (3, "sigma", |i| damaged(i, |s, p| zero_part(s, p)[s.reply(0) - 1] |= 0x80)),
+    (4, "end", |i| damaged(i, |s, p| p[s.signature() - 1] ^= 1)),
     (4, "claim", |i| i.claim = Claim::AnyC),
     (4, "claim", |i| i.claim = Claim::AnyH),
     (5, "line", |i| i.line = BAD_LINES[0]),
@@ -129,12 +135,12 @@ const FAULTS: [Fault; 42] = [
 ];
 
 /// The package of every line and claim.
-fn packages(rng: &mut Rng, signer: &Signer) -> Vec<(&'static [u8], Claim, Vec<u8>)> {
+fn packages(s: &Sizes, rng: &mut Rng, signer: &Signer) -> Vec<(&'static [u8], Claim, Vec<u8>)> {
     let mut made = Vec::new();
     for line in [LINE].into_iter().chain(BAD_LINES) {
-        let forger = Forger::new(&S, rng, &signer.private_seed, line).expect("no short draw");
+        let forger = Forger::new(s, rng, &signer.private_seed, line).expect("no short draw");
         for claim in CLAIMS {
-            let any = rng.bytes(S.digest);
+            let any = rng.bytes(s.digest);
             let (c, h) = ((claim == Claim::AnyC).then_some(&any[..]), (claim == Claim::AnyH).then_some(&any[..]));
             made.push((line, claim, [&forger.claim(c, h).expect("no short draw"), line].concat()));
         }
@@ -142,12 +148,12 @@ fn packages(rng: &mut Rng, signer: &Signer) -> Vec<(&'static [u8], Claim, Vec<u8
     made
 }
 
-#[test]
-fn pairs_of_refusals() {
-    let (mut t, mut rng) = (Tally::new("load, pairs of refusals"), Rng::new(6));
-    let signer = Signer::new(&mut rng);
-    let made = packages(&mut rng, &signer);
+fn pairs_at(category: &Category) {
+    let (mut t, mut rng) = (category.tally("load, pairs of refusals"), Rng::new(6));
+    let (sizes, signer) = (category.sizes, Signer::new(category, &mut rng));
+    let made = packages(&sizes, &mut rng, &signer);
     let honest = Input {
+        sizes,
         image: with_pair(11),
         key: signer.key.clone(),
         line: LINE,
@@ -162,10 +168,15 @@ fn pairs_of_refusals() {
         faults.iter().for_each(|fault| fault.2(&mut i));
         let found = made.iter().find(|(line, claim, _)| *line == i.line && *claim == i.claim);
         let mut package = found.expect("made").2.clone();
-        i.damage.iter().for_each(|damage| damage(&mut package));
+        i.damage.iter().for_each(|damage| damage(&sizes, &mut package));
         package.resize(i.room.unwrap_or(package.len()), b'0');
         let (sent, device) = (Sent { key: &i.key, package: &package }, Device { country: i.country, class: i.class });
-        Both::from(&i.image).load(&mut t, sent, &device, CLEAR)
+        let mut both = Both::from(category, &i.image);
+        if category.number == 1 {
+            both.load_clear(&mut t, sent, &device)
+        } else {
+            both.load_fast(&mut t, sent, &device)
+        }
     };
     assert_eq!(answer(&[]), 0);
     for (at, fault) in FAULTS.into_iter().enumerate() {
@@ -176,6 +187,11 @@ fn pairs_of_refusals() {
         }
     }
     t.finish(700, &[0, 1, 3, 4, 5, 6, 7, 8, 10]);
+}
+
+#[test]
+fn pairs_of_refusals() {
+    CATEGORIES.iter().for_each(pairs_at);
 }
 
 /// A lookup with each setting of country, class, image and room, right and wrong.
@@ -193,7 +209,7 @@ fn lookups() {
                 for room in [72, 0, 1, 71, 73, 144] {
                     let due = [of_country, of_class, u8::from(room != 72), of_image];
                     let wanted = [10, 1, 9].into_iter().find(|refusal| due.contains(refusal)).unwrap_or(of_image);
-                    let answer = Both::from(image).lookup(&mut t, &Device { country, class }, room);
+                    let answer = Both::from(&CATEGORY_1, image).lookup(&mut t, &Device { country, class }, room);
                     assert_eq!(answer, wanted, "{country:?} {class} {room}");
                 }
             }
@@ -203,13 +219,12 @@ fn lookups() {
 }
 
 /// Serial 12 after 12, then 13; a 17th pair; and the same country with another class stays apart.
-#[test]
-fn worked_cases() {
-    let (mut t, mut rng) = (Tally::new("load, worked cases"), Rng::new(7));
-    let (signer, mut both) = (Signer::new(&mut rng), Both::empty());
+fn worked_at(category: &Category) {
+    let (mut t, mut rng) = (category.tally("load, worked cases"), Rng::new(7));
+    let (signer, mut both) = (Signer::new(category, &mut rng), Both::empty(category));
     let mut load = |both: &mut Both, profile: &Profile| {
         let package = signer.package_of(&mut rng, profile);
-        both.load(&mut t, Sent { key: &signer.key, package: &package }, &device_of(profile), CLEAR)
+        both.load_clear(&mut t, Sent { key: &signer.key, package: &package }, &device_of(profile))
     };
     let twelve = read_line(LINE).expect("a line");
     let thirteen = Profile { serial: 13, ..twelve };
@@ -225,4 +240,9 @@ fn worked_cases() {
     }
     assert_eq!(load(&mut both, &Profile { serial: 14, ..twelve }), 0);
     t.finish(21, &[0, 7, 8]);
+}
+
+#[test]
+fn worked_cases() {
+    CATEGORIES.iter().for_each(worked_at);
 }

@@ -1,11 +1,14 @@
 //! Runs of random calls on one store.
 
-use crate::both::{device_of, devices, Both, Sent, Signer, CLEAR, COUNTRIES, LONGEST_PACKAGE, S, SHORTEST_PACKAGE};
+use crate::both::{device_of, devices, Both, Sent, Signer, COUNTRIES};
+use peer::archive::{Category, CATEGORIES};
 use peer::harness::Tally;
 use peer::line::cases::valid;
 use peer::line::{class_of, image, Profile, IMAGE};
 use peer::rng::Rng;
-use peer::store::{Device, STORE};
+use peer::scheme;
+use peer::sizes::Sizes;
+use peer::store::{package_lengths, Device, STORE};
 
 /// A package with the profile that was signed, and what the clear checker says of it under the key.
 struct Post {
@@ -23,20 +26,20 @@ fn some_profile(rng: &mut Rng) -> Profile {
 
 /// A package, now and then with a signed line that breaks a rule, damaged, or under a key that is
 /// another one or none.
-fn post(rng: &mut Rng, signer: &Signer, other: &Signer, turn: usize) -> Post {
+fn post(s: &Sizes, rng: &mut Rng, signer: &Signer, other: &Signer, turn: usize) -> Post {
     let (profile, mut key) = (some_profile(rng), signer.key.clone());
     let mut package = signer.package_of(rng, &profile);
     match turn % 24 {
         0 => package = signer.package(rng, &[b'7'; 50]),
-        1 => package[rng.below(S.signature())] ^= 1 << rng.below(8),
-        2 => package[rng.below(S.signature())] = 0xFF,
+        1 => package[rng.below(s.signature())] ^= 1 << rng.below(8),
+        2 => package[rng.below(s.signature())] = 0xFF,
         3 => *package.last_mut().expect("a line") = b'9',
         4 => key.clone_from(&other.key),
-        5 => key[32 + rng.below(45)] = 0xFF,
+        5 => key[s.key_seed + rng.below(s.packed_syndrome())] = 0xFF,
         _ => (),
     }
-    let (signature, line) = package.split_at(S.signature());
-    let due = CLEAR(&key, line, signature);
+    let (signature, line) = package.split_at(s.signature());
+    let due = scheme::verify(s, &key, line, signature);
     Post { profile, key, package, due }
 }
 
@@ -75,6 +78,7 @@ fn scattered(rng: &mut Rng) -> Vec<u8> {
 }
 
 struct Run<'a> {
+    sizes: Sizes,
     rng: &'a mut Rng,
     posts: &'a [Post],
     both: Both,
@@ -93,10 +97,11 @@ impl Run<'_> {
             }
             _ => own,
         };
+        let lengths = package_lengths(&self.sizes);
         match self.rng.below(30) {
-            0 => package.truncate(self.rng.below(SHORTEST_PACKAGE)),
-            1 => package.resize(LONGEST_PACKAGE + 1 + self.rng.below(100), b'\n'),
-            2 => key.truncate(self.rng.below(S.key())),
+            0 => package.truncate(self.rng.below(*lengths.start())),
+            1 => package.resize(lengths.end() + 1 + self.rng.below(100), b'\n'),
+            2 => key.truncate(self.rng.below(self.sizes.key())),
             3 => key.push(0),
             _ => (),
         }
@@ -114,17 +119,17 @@ impl Run<'_> {
     }
 }
 
-/// 500 runs of 50 calls, half of them from the empty store. After each call every pair is looked up.
-#[test]
-fn runs() {
-    let (mut loads, mut lookups) = (Tally::new("load, runs of calls"), Tally::new("lookup, runs of calls"));
-    let mut finds = Tally::new("lookup, each pair after each call");
-    let mut rng = Rng::new(0x7275_6E73);
-    let (signer, other) = (Signer::new(&mut rng), Signer::new(&mut rng));
-    let posts: Vec<Post> = (0..400).map(|turn| post(&mut rng, &signer, &other, turn)).collect();
-    for turn in 0..500 {
-        let both = if turn % 2 == 0 { Both::empty() } else { Both::from(&scattered(&mut rng)) };
-        let mut run = Run { rng: &mut rng, posts: &posts, both };
+/// Runs of 50 calls, half of them from the empty store. After each call every pair is looked up.
+fn runs_at(category: &Category, runs: usize, posts: usize) {
+    let [mut loads, mut lookups, mut finds] =
+        ["load, runs of calls", "lookup, runs of calls", "lookup, each pair after each call"]
+            .map(|what| category.tally(what));
+    let (sizes, mut rng) = (category.sizes, Rng::new(0x7275_6E73));
+    let (signer, other) = (Signer::new(category, &mut rng), Signer::new(category, &mut rng));
+    let posts: Vec<Post> = (0..posts).map(|turn| post(&sizes, &mut rng, &signer, &other, turn)).collect();
+    for turn in 0..runs {
+        let both = if turn % 2 == 0 { Both::empty(category) } else { Both::from(category, &scattered(&mut rng)) };
+        let mut run = Run { sizes, rng: &mut rng, posts: &posts, both };
         for _ in 0..50 {
             if run.rng.below(10) < 9 {
                 run.load(&mut loads);
@@ -134,7 +139,14 @@ fn runs() {
             run.both.find_all(&mut finds);
         }
     }
-    loads.finish(20_000, &[0, 1, 3, 4, 5, 6, 7, 8, 10]);
-    lookups.finish(2_000, &[0, 1, 9, 10]);
-    finds.finish(24 * 25_000, &[0, 9]);
+    loads.finish(40 * runs, &[0, 1, 3, 4, 5, 6, 7, 8, 10]);
+    lookups.finish(4 * runs, &[0, 1, 9, 10]);
+    finds.finish(24 * 50 * runs, &[0, 9]);
+}
+
+#[test]
+fn runs() {
+    for (category, (runs, posts)) in CATEGORIES.iter().zip([(500, 400), (60, 120), (40, 96)]) {
+        runs_at(category, runs, posts);
+    }
 }

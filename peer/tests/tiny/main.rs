@@ -5,10 +5,12 @@ mod archive;
 mod short;
 mod tally;
 
+use archive::{Tiny, TINIES};
 use peer::rng::Rng;
 use peer::scheme::cases::{attempt, flipped, Committed, Signed};
 use peer::scheme::{self, RoundCase};
-use short::{to_blame, Place, SIZES};
+use peer::sizes::Sizes;
+use short::{to_blame, Place};
 use tally::Tally;
 
 /// A string that is now and then a byte too long or too short.
@@ -34,116 +36,127 @@ fn damaged(rng: &mut Rng, bytes: &[u8]) -> Vec<u8> {
     missized(rng, &out)
 }
 
-fn compare_make_key(tally: &mut Tally, private_seed: &[u8], len: usize) {
-    let plain = |key: &mut [u8]| scheme::make_key(&SIZES, private_seed, key);
-    let place = to_blame(Place::KeyExponents, |s| scheme::make_key(s, private_seed, &mut vec![0; len]));
-    tally.agree_on_bytes(len, |key| archive::make_key(private_seed, key), plain, place);
+fn compare_make_key(tiny: &Tiny, tally: &mut Tally, private_seed: &[u8], len: usize) {
+    let plain = |key: &mut [u8]| scheme::make_key(&tiny.sizes, private_seed, key);
+    let answer = |s: &Sizes| scheme::make_key(s, private_seed, &mut vec![0; len]);
+    let place = to_blame(&tiny.sizes, Place::KeyExponents, answer);
+    tally.agree_on_bytes(len, |key| tiny.make_key(private_seed, key), plain, place);
 }
 
 #[test]
 fn make_key() {
-    let (mut tally, mut rng) = (Tally::new("make_key"), Rng::new(0x6B65_7973));
-    for _ in 0..20_000 {
-        let drawn = rng.bytes(SIZES.key_seed);
-        let len = missized(&mut rng, &vec![0; SIZES.key()]).len();
-        compare_make_key(&mut tally, &missized(&mut rng, &drawn), len);
+    for tiny in &TINIES {
+        let (mut tally, mut rng) = (Tally::new(tiny, "make_key"), Rng::new(0x6B65_7973));
+        for _ in 0..20_000 {
+            let drawn = rng.bytes(tiny.sizes.key_seed);
+            let len = missized(&mut rng, &vec![0; tiny.sizes.key()]).len();
+            compare_make_key(tiny, &mut tally, &missized(&mut rng, &drawn), len);
+        }
+        tally.finish(2, &[Place::Matrix, Place::KeyExponents]);
     }
-    tally.finish(2, &[Place::Matrix, Place::KeyExponents]);
 }
 
 /// The draw to blame where signing into `len` bytes is refused.
-fn sign_place(made: &Signed, len: usize) -> Option<Place> {
+fn sign_place(s: &Sizes, made: &Signed, len: usize) -> Option<Place> {
     let Signed { private_seed, master_seed, salt, message, .. } = made;
-    let has_key = scheme::make_key(&SIZES, private_seed, &mut vec![0; SIZES.key()]) == 0;
+    let has_key = scheme::make_key(s, private_seed, &mut vec![0; s.key()]) == 0;
     let exponents = if has_key { Place::RoundExponents } else { Place::KeyExponents };
-    to_blame(exponents, |s| scheme::sign(s, private_seed, master_seed, salt, message, &mut vec![0; len]))
+    to_blame(s, exponents, |s| scheme::sign(s, private_seed, master_seed, salt, message, &mut vec![0; len]))
 }
 
-fn compare_sign(tally: &mut Tally, made: &Signed, len: usize) {
+fn compare_sign(tiny: &Tiny, tally: &mut Tally, made: &Signed, len: usize) {
     let Signed { private_seed, master_seed, salt, message, .. } = made;
-    let proved = |sig: &mut [u8]| archive::sign(private_seed, master_seed, salt, message, sig);
-    let plain = |sig: &mut [u8]| scheme::sign(&SIZES, private_seed, master_seed, salt, message, sig);
-    tally.agree_on_bytes(len, proved, plain, sign_place(made, len));
+    let proved = |sig: &mut [u8]| tiny.sign(private_seed, master_seed, salt, message, sig);
+    let plain = |sig: &mut [u8]| scheme::sign(&tiny.sizes, private_seed, master_seed, salt, message, sig);
+    tally.agree_on_bytes(len, proved, plain, sign_place(&tiny.sizes, made, len));
 }
 
 /// An honest signing that is not refused.
-fn signed(rng: &mut Rng, message_len: usize) -> Signed {
+fn signed(s: &Sizes, rng: &mut Rng, message_len: usize) -> Signed {
     loop {
-        let (_, answer, made) = attempt(&SIZES, rng, message_len);
+        let (_, answer, made) = attempt(s, rng, message_len);
         if answer == 0 {
             return made;
         }
     }
 }
 
-#[test]
-fn sign() {
-    let (mut tally, mut rng) = (Tally::new("sign"), Rng::new(0x7369_676E));
+fn sign_at(tiny: &Tiny) {
+    let (s, mut tally, mut rng) = (&tiny.sizes, Tally::new(tiny, "sign"), Rng::new(0x7369_676E));
     for turn in 0..20_000 {
-        let (_, _, mut made) = attempt(&SIZES, &mut rng, turn % 200);
+        let (_, _, mut made) = attempt(s, &mut rng, turn % 200);
         for part in [&mut made.private_seed, &mut made.master_seed, &mut made.salt] {
             *part = missized(&mut rng, part);
         }
         let len = missized(&mut rng, &made.signature).len();
-        compare_sign(&mut tally, &made, len);
+        compare_sign(tiny, &mut tally, &made, len);
     }
-    let mut made = signed(&mut rng, 4);
+    let mut made = signed(s, &mut rng, 4);
     for message_len in [65_536, 65_537] {
         made.message = rng.bytes(message_len);
-        compare_sign(&mut tally, &made, SIZES.signature());
+        compare_sign(tiny, &mut tally, &made, s.signature());
     }
     // one more message until the second challenge is short
-    while sign_place(&made, SIZES.signature()) != Some(Place::SecondChallenge) {
+    while sign_place(s, &made, s.signature()) != Some(Place::SecondChallenge) {
         made.message = rng.bytes(8);
     }
-    compare_sign(&mut tally, &made, SIZES.signature());
+    compare_sign(tiny, &mut tally, &made, s.signature());
     let challenges = [Place::FirstChallenges, Place::SecondChallenge];
     let rounds = [Place::RoundExponents, Place::RoundValues];
     tally.finish(2, &[&[Place::Matrix, Place::KeyExponents], &rounds[..], &challenges].concat());
 }
 
-fn verify_place(key: &[u8], message: &[u8], signature: &[u8]) -> Option<Place> {
-    to_blame(Place::RoundExponents, |s| scheme::verify(s, key, message, signature))
-}
-
-fn compare_verify(tally: &mut Tally, key: &[u8], message: &[u8], signature: &[u8]) {
-    let plain = scheme::verify(&SIZES, key, message, signature);
-    tally.agree(archive::verify(key, message, signature), plain, verify_place(key, message, signature));
-}
-
 #[test]
-fn verify() {
-    let (mut tally, mut rng) = (Tally::new("verify"), Rng::new(0x7665_7269));
+fn sign() {
+    TINIES.iter().for_each(sign_at);
+}
+
+fn verify_place(s: &Sizes, key: &[u8], message: &[u8], signature: &[u8]) -> Option<Place> {
+    to_blame(s, Place::RoundExponents, |s| scheme::verify(s, key, message, signature))
+}
+
+fn compare_verify(tiny: &Tiny, tally: &mut Tally, key: &[u8], message: &[u8], signature: &[u8]) {
+    let plain = scheme::verify(&tiny.sizes, key, message, signature);
+    let place = verify_place(&tiny.sizes, key, message, signature);
+    tally.agree(tiny.verify(key, message, signature), plain, place);
+}
+
+fn verify_at(tiny: &Tiny) {
+    let (s, mut tally, mut rng) = (&tiny.sizes, Tally::new(tiny, "verify"), Rng::new(0x7665_7269));
     for turn in 0..4_000 {
-        let Signed { key, message, signature, .. } = signed(&mut rng, turn % 200);
-        compare_verify(&mut tally, &key, &message, &signature);
-        compare_verify(&mut tally, &damaged(&mut rng, &key), &message, &signature);
-        compare_verify(&mut tally, &key, &rng.bytes(message.len()), &signature);
+        let Signed { key, message, signature, .. } = signed(s, &mut rng, turn % 200);
+        compare_verify(tiny, &mut tally, &key, &message, &signature);
+        compare_verify(tiny, &mut tally, &damaged(&mut rng, &key), &message, &signature);
+        compare_verify(tiny, &mut tally, &key, &rng.bytes(message.len()), &signature);
         for _ in 0..4 {
-            compare_verify(&mut tally, &key, &message, &damaged(&mut rng, &signature));
+            compare_verify(tiny, &mut tally, &key, &message, &damaged(&mut rng, &signature));
         }
     }
-    let Signed { key, mut signature, .. } = signed(&mut rng, 4);
+    let Signed { key, mut signature, .. } = signed(s, &mut rng, 4);
     for message_len in [65_536, 65_537] {
-        compare_verify(&mut tally, &key, &rng.bytes(message_len), &signature);
+        compare_verify(tiny, &mut tally, &key, &rng.bytes(message_len), &signature);
     }
     // one more signature until the second challenge is short
-    while verify_place(&key, b"", &signature) != Some(Place::SecondChallenge) {
+    while verify_place(s, &key, b"", &signature) != Some(Place::SecondChallenge) {
         rng.fill(&mut signature);
     }
-    compare_verify(&mut tally, &key, b"", &signature);
+    compare_verify(tiny, &mut tally, &key, b"", &signature);
     let challenges = [Place::FirstChallenges, Place::SecondChallenge];
     tally.finish(4, &[&[Place::Matrix, Place::RoundExponents, Place::RoundValues], &challenges[..]].concat());
 }
 
-fn compare_verify_round(tally: &mut Tally, case: &RoundCase) {
-    let place = to_blame(Place::RoundExponents, |s| scheme::verify_round(s, case));
-    tally.agree(archive::verify_round(case), scheme::verify_round(&SIZES, case), place);
+#[test]
+fn verify() {
+    TINIES.iter().for_each(verify_at);
 }
 
-/// Spoils one part of a case.
-fn spoil(rng: &mut Rng, c: &mut RoundCase) {
-    let rounds = SIZES.t as u32;
+fn compare_verify_round(tiny: &Tiny, tally: &mut Tally, case: &RoundCase) {
+    let place = to_blame(&tiny.sizes, Place::RoundExponents, |s| scheme::verify_round(s, case));
+    tally.agree(tiny.verify_round(case), scheme::verify_round(&tiny.sizes, case), place);
+}
+
+/// Spoils one part of a case of so many rounds.
+fn spoil(rng: &mut Rng, c: &mut RoundCase, rounds: u32) {
     match rng.below(9) {
         0 => c.key = damaged(rng, &c.key),
         1 => c.salt = damaged(rng, &c.salt),
@@ -157,20 +170,24 @@ fn spoil(rng: &mut Rng, c: &mut RoundCase) {
     }
 }
 
-#[test]
-fn verify_round() {
-    let (mut tally, mut rng) = (Tally::new("verify_round"), Rng::new(0x726F_756E));
+fn verify_round_at(tiny: &Tiny) {
+    let (s, mut tally, mut rng) = (&tiny.sizes, Tally::new(tiny, "verify_round"), Rng::new(0x726F_756E));
     for turn in 0..10_000 {
         let first = 1 + rng.below(126) as u8;
-        let mut case = Committed::draw(&SIZES, &mut rng).case(&SIZES, first, turn % 2);
-        compare_verify_round(&mut tally, &case);
+        let mut case = Committed::draw(s, &mut rng).case(s, first, turn % 2);
+        compare_verify_round(tiny, &mut tally, &case);
         for _ in 0..2 {
             let mut once = case.clone();
-            spoil(&mut rng, &mut once);
-            compare_verify_round(&mut tally, &once);
+            spoil(&mut rng, &mut once, s.t as u32);
+            compare_verify_round(tiny, &mut tally, &once);
         }
         rng.fill(&mut case.reply);
-        compare_verify_round(&mut tally, &case);
+        compare_verify_round(tiny, &mut tally, &case);
     }
     tally.finish(4, &[Place::Matrix, Place::RoundExponents, Place::RoundValues]);
+}
+
+#[test]
+fn verify_round() {
+    TINIES.iter().for_each(verify_round_at);
 }

@@ -1,5 +1,6 @@
 //! Counts what both programs agreed on: by answer, and by the draw that was short.
 
+use crate::archive::Tiny;
 use crate::short::Place;
 use std::collections::BTreeMap;
 
@@ -10,14 +11,15 @@ const LEAST: usize = 10_000;
 const GUARD: usize = 32;
 
 pub struct Tally {
-    name: &'static str,
+    name: String,
     inputs: usize,
     answers: [usize; 5],
     places: BTreeMap<Place, usize>,
 }
 
 impl Tally {
-    pub fn new(name: &'static str) -> Tally {
+    pub fn new(tiny: &Tiny, entry: &str) -> Tally {
+        let name = format!("{entry} over {}", tiny.name);
         Tally { name, inputs: 0, answers: [0; 5], places: BTreeMap::new() }
     }
 

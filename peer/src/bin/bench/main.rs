@@ -2,18 +2,21 @@
 //! inputs, the programs in turns, each time the least of many.
 //!
 //! The first two columns are the library's time over the others': below 1 it is the quicker one. The
-//! column SHAKE128 says what part of a job's time the library's SHAKE128 takes for strings of the
-//! lengths that the job hashes, measured in the same turns. Stack use comes from the program that the
-//! first argument names (`c/stack.c`); without it that column stays empty. For `lookup` the plain
-//! program is the clear one of this crate: it has no fast one.
+//! column SHAKE says what part of a job's time the library's SHAKE takes for strings of the lengths
+//! that the job hashes, measured in the same turns. Stack use comes from the program that the first
+//! argument names (`c/stack.c`); without it that column stays empty. For `lookup` the plain program is
+//! the clear one of this crate: it has no fast one.
 
+mod growth;
 mod measure;
 mod scheme;
 mod small;
 mod stacks;
 mod store;
 mod table;
+mod work;
 
+use peer::archive::CATEGORIES;
 use peer::rng::Rng;
 use stacks::Stacks;
 
@@ -21,11 +24,18 @@ fn main() {
     let stacks = std::env::args().nth(1).map_or_else(Stacks::default, |program| Stacks::measured(&program));
     let mut rng = Rng::new(0x6265_6E63);
     table::print_heads();
-    scheme::rows(&mut rng, &stacks);
-    store::rows(&mut rng, &stacks);
+    measure::warm_up();
+    for category in &CATEGORIES {
+        scheme::rows(category, &mut rng, &stacks);
+        store::rows(category, &mut rng, &stacks);
+        small::sampling(category, &mut rng, &stacks);
+    }
+    store::lookup(&stacks);
     small::hashing(&mut rng, &stacks);
-    small::sampling(&mut rng, &stacks);
     small::packing(&mut rng, &stacks);
-    stacks.print(&["verify_round", "read_line", "write_line", "preview"]);
-    scheme::growth(&mut rng);
+    let rounds = CATEGORIES.map(|category| scheme::name(&category, "verify_round"));
+    let rest = ["read_line", "write_line", "preview"].map(str::to_string);
+    stacks.print(&[rounds, rest].concat());
+    growth::by_category(&mut rng);
+    growth::by_message(&mut rng);
 }

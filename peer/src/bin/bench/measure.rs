@@ -10,6 +10,12 @@ pub type Program<'a> = &'a mut dyn FnMut(usize);
 /// Turns of each program with each pile of inputs.
 const TURNS: usize = 400;
 
+/// Works for half a second: a processor that was idle is slow at first.
+pub fn warm_up() {
+    let start = Instant::now();
+    while black_box(start.elapsed().as_secs_f64()) < 0.5 {}
+}
+
 /// Seconds for one call of each program over `inputs` inputs, `pile` of them timed at once.
 ///
 /// The programs take turns on a pile; a pile's time is the least of all its turns, and the answer is

@@ -1,141 +1,148 @@
-//! Rows of key making, signing and verifying, and how verifying grows with the message.
+//! Rows of key making, signing and verifying, at each category.
 
 use crate::measure::{least, Program};
 use crate::stacks::Stacks;
-use crate::table::{microseconds, print, Row};
-use peer::archive;
-use peer::fast::scheme as plain;
+use crate::table::{print, Row};
+use crate::work::{self, Strings};
+use peer::archive::{self, Category};
+use peer::keccak::SHAKE128_RATE;
 use peer::rng::Rng;
-use peer::sizes::{Sizes, CATEGORY_1};
+use peer::scheme as clear;
+use peer::sizes::Sizes;
 use std::hint::black_box;
 
-pub const S: Sizes = CATEGORY_1;
-
 /// Different inputs of a row. A call is long enough for the clock: the programs alternate call by call.
-const INPUTS: usize = 4;
+pub const INPUTS: usize = 4;
 
 /// Bytes of a usual line.
 pub const LINE: usize = 56;
 
-/// The strings that a job hashes for a message of `LINE` bytes: length, bytes drawn, how often.
-pub type Hashed = &'static [(usize, usize, usize)];
-const KEY_HASHES: Hashed = &[(33, 64, 1), (33, 3500, 1), (33, 96, 1)];
-pub const SIGN_HASHES: Hashed = &[
-    (33, 64, 1),
-    (33, 3500, 1),
-    (33, 96, 1),
-    (49, 2608, 1),
-    (51, 96, 163),
-    (51, 140, 163),
-    (128, 32, 163),
-    (195, 32, 163),
-    (113, 32, 163),
-    (5217, 32, 3),
-    (65, 32, 1),
-    (121, 196, 1),
-    (296, 400, 1),
-];
-pub const VERIFY_HASHES: Hashed = &[
-    (33, 3500, 1),
-    (121, 196, 1),
-    (296, 400, 1),
-    (51, 96, 85),
-    (51, 140, 85),
-    (195, 32, 85),
-    (128, 32, 78),
-    (113, 32, 163),
-    (5217, 32, 3),
-    (65, 32, 1),
-];
+/// The name of an entry in C, after `gridprofile_`.
+pub fn name(category: &Category, entry: &str) -> String {
+    match category.number {
+        1 => entry.to_string(),
+        number => format!("category{number}_{entry}"),
+    }
+}
 
 /// A signing, with everything that went into it.
-struct Signed {
-    seeds: [Vec<u8>; 3],
-    message: Vec<u8>,
-    key: Vec<u8>,
-    signature: Vec<u8>,
+pub struct Signed {
+    pub category: &'static Category,
+    pub seeds: [Vec<u8>; 3],
+    pub message: Vec<u8>,
+    pub key: Vec<u8>,
+    pub signature: Vec<u8>,
 }
 
-/// Both programs make the same key and signature.
-fn signed(rng: &mut Rng, message_len: usize) -> Signed {
-    let seeds = [S.key_seed, S.round_seed, S.salt].map(|len| rng.bytes(len));
-    let [seed, master, salt] = &seeds;
-    let message = rng.bytes(message_len);
-    let (mut key, mut other_key) = (vec![0; S.key()], vec![0; S.key()]);
-    let (mut signature, mut other) = (vec![0; S.signature()], vec![0; S.signature()]);
-    assert_eq!([archive::make_key(seed, &mut key), plain::make_key(seed, &mut other_key)], [0, 0]);
-    assert_eq!(archive::sign(seed, master, salt, &message, &mut signature), 0);
-    assert_eq!(plain::sign(seed, master, salt, &message, &mut other), 0);
-    assert!(key == other_key && signature == other, "keys or signatures differ");
-    Signed { seeds, message, key, signature }
+impl Signed {
+    /// The seeds are drawn; both programs make the same key and signature.
+    pub fn draw(category: &'static Category, rng: &mut Rng, message: &[u8]) -> Signed {
+        let s = &category.sizes;
+        let seeds = [s.key_seed, s.round_seed, s.salt].map(|len| rng.bytes(len));
+        let mut made = Signed { category, seeds, message: message.to_vec(), key: vec![], signature: vec![] };
+        made.key = made.by_both(&MAKE_KEY, s.key());
+        made.signature = made.by_both(&SIGN, s.signature());
+        made
+    }
+
+    /// The first bytes of what both programs make.
+    fn by_both(&self, job: &Job, len: usize) -> Vec<u8> {
+        let [mut own, mut other] = [(); 2].map(|()| vec![0; self.sizes().signature()]);
+        assert_eq!([(job.library)(self, &mut own), (job.plain)(self, &mut other)], [0, 0], "{}", job.entry);
+        assert!(own == other, "{} differs", job.entry);
+        own.truncate(len);
+        own
+    }
+
+    pub fn sizes(&self) -> &'static Sizes {
+        &self.category.sizes
+    }
 }
 
-/// Times both programs and, in the same turns, the library's SHAKE128 over strings of the same lengths.
-pub fn row(name: &str, stack: Option<usize>, hashes: Hashed, library: Program, plain: Program) {
-    let (input, mut out) = (vec![0; 5217], vec![0; 3500]);
+/// A job over a signing and a lent buffer as long as a signature, in three programs, and how many syndromes
+/// it computes.
+pub struct Job {
+    pub entry: &'static str,
+    pub library: fn(&Signed, &mut [u8]) -> u8,
+    pub plain: fn(&Signed, &mut [u8]) -> u8,
+    clear: fn(&Sizes, &Signed, &mut [u8]) -> u8,
+    syndromes: fn(&Sizes) -> usize,
+}
+
+pub const MAKE_KEY: Job = Job {
+    entry: "make_key",
+    library: |at, out| at.category.make_key(&at.seeds[0], &mut out[..at.sizes().key()]),
+    plain: |at, out| (at.category.plain.make_key)(&at.seeds[0], &mut out[..at.sizes().key()]),
+    clear: |s, at, out| clear::make_key(s, &at.seeds[0], &mut out[..at.sizes().key()]),
+    syndromes: |_| 1,
+};
+
+pub const SIGN: Job = Job {
+    entry: "sign",
+    library: |Signed { category, seeds: [seed, master, salt], message, .. }, out| {
+        category.sign(seed, master, salt, message, out)
+    },
+    plain: |Signed { category, seeds: [seed, master, salt], message, .. }, out| {
+        (category.plain.sign)(seed, master, salt, message, out)
+    },
+    clear: |s, Signed { seeds: [seed, master, salt], message, .. }, out| {
+        clear::sign(s, seed, master, salt, message, out)
+    },
+    syndromes: |s| s.t,
+};
+
+pub const VERIFY: Job = Job {
+    entry: "verify",
+    library: |at, _| at.category.verify(&at.key, &at.message, &at.signature),
+    plain: |at, _| (at.category.plain.verify)(&at.key, &at.message, &at.signature),
+    clear: |s, at, _| clear::verify(s, &at.key, &at.message, &at.signature),
+    syndromes: |s| s.t - s.w,
+};
+
+pub const JOBS: [Job; 3] = [MAKE_KEY, SIGN, VERIFY];
+
+impl Job {
+    /// The strings that it hashes.
+    pub fn strings(&self, at: &Signed) -> Strings {
+        work::strings(at.sizes(), |s| {
+            assert_eq!((self.clear)(s, at, &mut vec![0; s.signature()]), 0, "{}", self.entry);
+        })
+    }
+
+    /// Products of values in its syndromes: one for each value of V.
+    pub fn products(&self, s: &Sizes) -> usize {
+        (self.syndromes)(s) * s.matrix()
+    }
+}
+
+/// Times both programs and, in the same turns, the library's SHAKE over strings of the same lengths.
+pub fn row(c: &Category, entry: &str, stacks: &Stacks, strings: &Strings, library: Program, plain: Program) {
+    let name = name(c, entry);
+    let shake = if c.sizes.rate == SHAKE128_RATE { archive::shake128 } else { archive::shake256 };
+    let longest = strings.iter().fold((0, 0), |most, &(len, drawn)| (most.0.max(len), most.1.max(drawn)));
+    let (input, mut out) = (vec![0; longest.0], vec![0; longest.1]);
     let mut hash = |_: usize| {
-        for &(len, out_len, times) in hashes {
-            (0..times).for_each(|_| archive::shake128(&input[..len], black_box(&mut out[..out_len])));
-        }
+        strings.iter().for_each(|&(len, drawn)| shake(&input[..len], black_box(&mut out[..drawn])));
     };
     let times = least(INPUTS, 1, &mut [library, plain, &mut hash]);
-    let (library, plain, hashing) = (times[0], times[1], Some(times[2]));
-    print(&Row { name: name.to_string(), library, plain, hashing, stack, openssl: None });
+    let (library, plain, hashing, stack) = (times[0], times[1], Some(times[2]), stacks.of(&name));
+    print(&Row { name, library, plain, hashing, stack, openssl: None });
 }
 
-type MakeKey = fn(&[u8], &mut [u8]) -> u8;
-type Sign = fn(&[u8], &[u8], &[u8], &[u8], &mut [u8]) -> u8;
-type Verify = fn(&[u8], &[u8], &[u8]) -> u8;
-
-pub fn rows(rng: &mut Rng, stacks: &Stacks) {
-    let cases: Vec<Signed> = (0..INPUTS).map(|_| signed(rng, LINE)).collect();
-    let (mut out, mut other) = (vec![0; S.signature()], vec![0; S.signature()]);
-    let make_key = |f: MakeKey, at: usize, out: &mut [u8]| {
-        assert_eq!(f(&cases[at].seeds[0], black_box(&mut out[..S.key()])), 0);
-    };
-    let sign = |f: Sign, at: usize, out: &mut [u8]| {
-        let Signed { seeds: [seed, master, salt], message, .. } = &cases[at];
-        assert_eq!(f(seed, master, salt, message, black_box(out)), 0);
-    };
-    let verify = |f: Verify, at: usize| {
-        let Signed { key, message, signature, .. } = &cases[at];
-        assert_eq!(f(key, message, signature), 0);
-    };
-    let mut library = |at: usize| make_key(archive::make_key, at, &mut out);
-    row("make_key", stacks.of("make_key"), KEY_HASHES, &mut library, &mut |at| {
-        make_key(plain::make_key, at, &mut other)
-    });
-    let mut library = |at: usize| sign(archive::sign, at, &mut out);
-    row("sign", stacks.of("sign"), SIGN_HASHES, &mut library, &mut |at| sign(plain::sign, at, &mut other));
-    let mut library = |at: usize| verify(archive::verify, at);
-    row("verify", stacks.of("verify"), VERIFY_HASHES, &mut library, &mut |at| verify(plain::verify, at));
+/// Signings of messages as long as a line.
+pub fn signings(category: &'static Category, rng: &mut Rng) -> [Signed; INPUTS] {
+    [(); INPUTS].map(|()| {
+        let message = rng.bytes(LINE);
+        Signed::draw(category, rng, &message)
+    })
 }
 
-/// Bytes of a message, from none to the most.
-const MESSAGES: [usize; 6] = [0, 64, 1_024, 4_096, 16_384, 65_536];
-
-/// Marks of the plot for the time of an empty message.
-const MARKS: f64 = 20.0;
-
-/// A line for each length of message, all lengths and both programs in turns.
-pub fn growth(rng: &mut Rng) {
-    let cases = MESSAGES.map(|len| signed(rng, len));
-    let verify = |f: Verify, at: usize| {
-        let Signed { key, message, signature, .. } = &cases[at];
-        assert_eq!(f(key, message, signature), 0);
-    };
-    let mut library: Vec<_> = (0..cases.len()).map(|at| move |_: usize| verify(archive::verify, at)).collect();
-    let mut other: Vec<_> = (0..cases.len()).map(|at| move |_: usize| verify(plain::verify, at)).collect();
-    let mut programs: Vec<Program> = Vec::new();
-    library.iter_mut().for_each(|program| programs.push(program));
-    other.iter_mut().for_each(|program| programs.push(program));
-    let times = least(1, 1, &mut programs);
-    let (library, plain) = times.split_at(cases.len());
-    println!("\nverify, by the message's bytes: time to that of an empty message, and to the plain program's");
-    println!("to empty  to plain  {:>8} {:>13}", "bytes", "library");
-    for ((len, &time), plain) in MESSAGES.iter().zip(library).zip(plain) {
-        let growth = time / library[0];
-        let plot = "#".repeat((MARKS * growth).round() as usize);
-        println!("{growth:8.2}  {:8.2}  {len:8} {:>13}  {plot}", time / plain, microseconds(time));
+pub fn rows(category: &'static Category, rng: &mut Rng, stacks: &Stacks) {
+    let cases = signings(category, rng);
+    let [mut out, mut other] = [(); 2].map(|()| cases[0].signature.clone());
+    for job in &JOBS {
+        let mut library = |at: usize| assert_eq!((job.library)(&cases[at], black_box(&mut out)), 0);
+        let mut plain = |at: usize| assert_eq!((job.plain)(&cases[at], black_box(&mut other)), 0);
+        row(category, job.entry, stacks, &job.strings(&cases[0]), &mut library, &mut plain);
     }
 }

@@ -1,14 +1,18 @@
-//! Rows of the small entries: SHAKE128, samples, packing.
+//! Rows of the small entries: SHAKE, samples, packing.
 
 use crate::measure::least;
+use crate::scheme::name;
 use crate::stacks::Stacks;
 use crate::table::{print, Row};
+use peer::archive::{self, Category};
+use peer::fast::keccak::shake;
+use peer::fast::packing as plain_packing;
 use peer::harness::Function;
-use peer::keccak::SHAKE128_RATE;
-use peer::openssl::Shake128;
+use peer::keccak::{SHAKE128_RATE, SHAKE256_RATE};
+use peer::openssl::{self, Shake};
 use peer::rng::Rng;
-use peer::sizes::CATEGORY_1;
-use peer::{archive, fast};
+use peer::sizes::{Sizes, CATEGORY_1, CATEGORY_3, CATEGORY_5};
+use std::ffi::CStr;
 use std::hint::black_box;
 
 /// Different inputs of a row, all timed at once: one call is too short for the clock.
@@ -20,10 +24,10 @@ fn many(mut make: impl FnMut() -> Vec<u8>) -> Vec<Vec<u8>> {
 
 /// One entry over inputs and a buffer of `out_len` bytes.
 struct Job<'a> {
-    entry: &'static str,
+    entry: String,
     inputs: &'a [Vec<u8>],
     out_len: usize,
-    proved: Function,
+    proved: &'a dyn Fn(&[u8], &mut [u8]) -> u8,
     plain: Function,
 }
 
@@ -34,73 +38,114 @@ fn row(stacks: &Stacks, job: Job) {
         assert_eq!((proved(input, &mut out), plain(input, &mut other_out)), (0, 0), "{entry}");
         assert_eq!(out, other_out, "{entry}");
     }
-    let call = |function: Function, input: &[u8], out: &mut [u8]| {
-        black_box(function(input, black_box(out)));
+    let mut library = |at: usize| {
+        black_box(proved(&inputs[at], black_box(&mut out)));
     };
-    let mut library = |at: usize| call(proved, &inputs[at], &mut out);
-    let mut other = |at: usize| call(plain, &inputs[at], &mut other_out);
+    let mut other = |at: usize| {
+        black_box(plain(&inputs[at], black_box(&mut other_out)));
+    };
     let times = least(INPUTS, INPUTS, &mut [&mut library, &mut other]);
-    let (library, plain, stack) = (times[0], times[1], stacks.of(entry));
-    print(&Row { name: entry.to_string(), library, plain, stack, ..Row::default() });
+    let (library, plain, stack) = (times[0], times[1], stacks.of(&entry));
+    print(&Row { name: entry, library, plain, stack, ..Row::default() });
 }
 
-/// Lengths in and out: a round's draw, a commitment's size, the matrix, messages.
-const HASHES: [(usize, usize); 6] = [(51, 96), (128, 32), (33, 3500), (1_024, 32), (16_384, 32), (65_536, 32)];
+/// One of the two hashes in each program, and the categories that have it.
+struct Hash {
+    entry: &'static str,
+    proved: fn(&[u8], &mut [u8]),
+    plain: fn(&[&[u8]], &mut [u8]),
+    openssl: &'static CStr,
+    categories: &'static [Sizes],
+}
+
+const HASHES: [Hash; 2] = [
+    Hash {
+        entry: "shake128",
+        proved: archive::shake128,
+        plain: shake::<SHAKE128_RATE>,
+        openssl: openssl::SHAKE128,
+        categories: &[CATEGORY_1],
+    },
+    Hash {
+        entry: "shake256",
+        proved: archive::shake256,
+        plain: shake::<SHAKE256_RATE>,
+        openssl: openssl::SHAKE256,
+        categories: &[CATEGORY_3, CATEGORY_5],
+    },
+];
+
+/// Bytes of longer messages.
+const MESSAGES: [usize; 3] = [1_024, 16_384, 65_536];
+
+impl Hash {
+    /// Lengths in and out: a round's draw, a commitment and the matrix of each category, then messages.
+    fn lengths(&self) -> Vec<(usize, usize)> {
+        let of_category = |s: &Sizes| {
+            let round = s.salt + 2;
+            [
+                (1 + s.round_seed + round, s.exponents_block),
+                (1 + s.packed_syndrome() + s.packed_exponents() + round, s.digest),
+                (1 + s.key_seed, s.matrix_block),
+            ]
+        };
+        let digest = self.categories[0].digest;
+        self.categories.iter().flat_map(of_category).chain(MESSAGES.map(|len| (len, digest))).collect()
+    }
+
+    fn row(&self, rng: &mut Rng, other: &mut Option<Shake>, len: usize, out_len: usize) -> Row {
+        let name = format!("{}, {len} to {out_len} bytes", self.entry.to_uppercase());
+        let inputs = many(|| rng.bytes(len));
+        let mut outs = [(); 3].map(|()| vec![0; out_len]);
+        let [out, plain_out, openssl_out] = &mut outs;
+        let mut library = |at: usize| (self.proved)(&inputs[at], black_box(out));
+        let mut plain = |at: usize| (self.plain)(&[&inputs[at]], black_box(plain_out));
+        let times = match other {
+            Some(openssl) => {
+                let mut other = |at: usize| openssl.hash(&inputs[at], black_box(openssl_out));
+                least(INPUTS, INPUTS, &mut [&mut library, &mut plain, &mut other])
+            }
+            None => least(INPUTS, INPUTS, &mut [&mut library, &mut plain]),
+        };
+        assert_eq!(outs[0], outs[1], "{name}");
+        assert!(other.is_none() || outs[0] == outs[2], "{name}");
+        Row { name, library: times[0], plain: times[1], openssl: times.get(2).copied(), ..Row::default() }
+    }
+}
 
 pub fn hashing(rng: &mut Rng, stacks: &Stacks) {
-    let mut openssl = Shake128::load();
-    if openssl.is_none() {
-        println!("no OpenSSL 3 was found: its column stays empty");
-    }
-    for (len, out_len) in HASHES {
-        let row = hash(rng, &mut openssl, len, out_len);
-        print(&Row { stack: stacks.of("shake128"), ..row });
-    }
-}
-
-fn hash(rng: &mut Rng, openssl: &mut Option<Shake128>, len: usize, out_len: usize) -> Row {
-    let name = format!("SHAKE128, {len} to {out_len} bytes");
-    let inputs = many(|| rng.bytes(len));
-    let mut outs = [(); 3].map(|()| vec![0; out_len]);
-    let [out, plain_out, openssl_out] = &mut outs;
-    let mut library = |at: usize| archive::shake128(&inputs[at], black_box(out));
-    let mut plain = |at: usize| fast::keccak::shake::<SHAKE128_RATE>(&[&inputs[at]], black_box(plain_out));
-    let times = match openssl {
-        Some(openssl) => {
-            let mut other = |at: usize| openssl.hash(&inputs[at], black_box(openssl_out));
-            least(INPUTS, INPUTS, &mut [&mut library, &mut plain, &mut other])
+    for hash in &HASHES {
+        let mut openssl = Shake::load(hash.openssl);
+        if openssl.is_none() {
+            println!("no OpenSSL 3 was found: its column stays empty");
         }
-        None => least(INPUTS, INPUTS, &mut [&mut library, &mut plain]),
-    };
-    assert_eq!(outs[0], outs[1], "{name}");
-    assert!(openssl.is_none() || outs[0] == outs[2], "{name}");
-    Row { name, library: times[0], plain: times[1], openssl: times.get(2).copied(), ..Row::default() }
+        for (len, out_len) in hash.lengths() {
+            let row = hash.row(rng, &mut openssl, len, out_len);
+            print(&Row { stack: stacks.of(hash.entry), ..row });
+        }
+    }
 }
 
-pub fn sampling(rng: &mut Rng, stacks: &Stacks) {
-    use fast::sampling as plain;
-    let s = CATEGORY_1;
-    let jobs: [(&str, usize, usize, Function, Function); 5] = [
-        ("sample_matrix", s.matrix_block, s.matrix(), archive::sample_matrix, plain::sample_matrix),
-        ("sample_exponents", s.exponents_block, s.n, archive::sample_exponents, plain::sample_exponents),
-        ("sample_mask_values", s.mask_values_block, s.n, archive::sample_mask_values, plain::sample_mask_values),
-        (
-            "sample_first_challenges",
-            s.first_challenges_block,
-            s.t,
-            archive::sample_first_challenges,
-            plain::sample_first_challenges,
-        ),
-        (
-            "sample_second_challenge",
-            s.second_challenge_block,
-            s.t,
-            archive::sample_second_challenge,
-            plain::sample_second_challenge,
-        ),
-    ];
-    for (entry, block, out_len, proved, plain) in jobs {
-        row(stacks, Job { entry, inputs: &many(|| rng.bytes(block)), out_len, proved, plain });
+type Sample = fn(&Category, &[u8], &mut [u8]) -> u8;
+
+/// The entries of a category that draw from a block: name, block, count, and both programs.
+fn samples(c: &Category) -> [(&str, usize, usize, Sample, Function); 5] {
+    let (s, plain) = (&c.sizes, &c.plain);
+    let (first, second) = (s.first_challenges_block, s.second_challenge_block);
+    [
+        ("sample_matrix", s.matrix_block, s.matrix(), Category::sample_matrix, plain.sample_matrix),
+        ("sample_exponents", s.exponents_block, s.n, Category::sample_exponents, plain.sample_exponents),
+        ("sample_mask_values", s.mask_values_block, s.n, Category::sample_mask_values, plain.sample_mask_values),
+        ("sample_first_challenges", first, s.t, Category::sample_first_challenges, plain.sample_first_challenges),
+        ("sample_second_challenge", second, s.t, Category::sample_second_challenge, plain.sample_second_challenge),
+    ]
+}
+
+pub fn sampling(category: &Category, rng: &mut Rng, stacks: &Stacks) {
+    for (entry, block, out_len, proved, plain) in samples(category) {
+        let inputs = many(|| rng.bytes(block));
+        let proved = |block: &[u8], out: &mut [u8]| proved(category, block, out);
+        row(stacks, Job { entry: name(category, entry), inputs: &inputs, out_len, proved: &proved, plain });
     }
 }
 
@@ -114,7 +159,7 @@ fn packing_of(rng: &mut Rng, stacks: &Stacks, limit: usize, packed_len: usize, p
     };
     let packed: Vec<Vec<u8>> = numbers.iter().map(packed).collect();
     for (inputs, out_len, (entry, proved, plain)) in [(numbers, packed_len, pack), (packed, CATEGORY_1.n, unpack)] {
-        row(stacks, Job { entry, inputs: &inputs, out_len, proved, plain });
+        row(stacks, Job { entry: entry.to_string(), inputs: &inputs, out_len, proved: &proved, plain });
     }
 }
 
@@ -122,12 +167,12 @@ fn packing_of(rng: &mut Rng, stacks: &Stacks, limit: usize, packed_len: usize, p
 type Pair = (&'static str, Function, Function);
 
 pub fn packing(rng: &mut Rng, stacks: &Stacks) {
-    use fast::packing as plain;
     let s = CATEGORY_1;
-    let pack = ("pack_values", archive::pack_values as Function, plain::pack_values as Function);
-    let unpack = ("unpack_values", archive::unpack_values as Function, plain::unpack_values as Function);
+    let pack = ("pack_values", archive::pack_values as Function, plain_packing::pack_values as Function);
+    let unpack = ("unpack_values", archive::unpack_values as Function, plain_packing::unpack_values as Function);
     packing_of(rng, stacks, 127, s.packed_values(), pack, unpack);
-    let pack = ("pack_exponents", archive::pack_exponents as Function, plain::pack_exponents as Function);
-    let unpack = ("unpack_exponents", archive::unpack_exponents as Function, plain::unpack_exponents as Function);
+    let pack = ("pack_exponents", archive::pack_exponents as Function, plain_packing::pack_exponents as Function);
+    let unpack =
+        ("unpack_exponents", archive::unpack_exponents as Function, plain_packing::unpack_exponents as Function);
     packing_of(rng, stacks, 7, s.packed_exponents(), pack, unpack);
 }

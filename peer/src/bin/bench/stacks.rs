@@ -24,8 +24,8 @@ impl Stacks {
     }
 
     /// A line for entries that have no row.
-    pub fn print(&self, entries: &[&str]) {
-        let shown = |entry: &&str| self.of(entry).map(|bytes| format!("{entry} {bytes}"));
+    pub fn print(&self, entries: &[String]) {
+        let shown = |entry: &String| self.of(entry).map(|bytes| format!("{entry} {bytes}"));
         let known: Vec<String> = entries.iter().filter_map(shown).collect();
         if !known.is_empty() {
             println!("\nstack of entries without a row: {}", known.join(", "));

@@ -7,7 +7,7 @@ pub struct Row {
     pub library: f64,
     pub plain: f64,
     pub openssl: Option<f64>,
-    /// Seconds for the library's SHAKE128 of all strings that the job hashes.
+    /// Seconds for the library's SHAKE of all strings that the job hashes.
     pub hashing: Option<f64>,
     /// Bytes.
     pub stack: Option<usize>,
@@ -22,18 +22,18 @@ pub fn microseconds(seconds: f64) -> String {
     format!("{:.3} us", seconds * 1e6)
 }
 
-const HEADS: [&str; 8] = ["to plain", "to OpenSSL", "job", "library", "plain", "OpenSSL", "SHAKE128", "stack"];
+const HEADS: [&str; 8] = ["to plain", "to OpenSSL", "job", "library", "plain", "OpenSSL", "SHAKE", "stack"];
 
 fn line(cells: [String; 8]) -> String {
     let [a, b, c, d, e, f, g, h] = cells;
-    format!("{a:>8}  {b:>10}  {c:28} {d:>13} {e:>13} {f:>13} {g:>9} {h:>8}")
+    format!("{a:>8}  {b:>10}  {c:33} {d:>13} {e:>13} {f:>13} {g:>6} {h:>8}")
 }
 
 pub fn print_heads() {
     println!(
         "The library's time for one call over the plain program's and OpenSSL's, the least of many in turns; what"
     );
-    println!("part of it SHAKE128 takes; bytes of stack.\n");
+    println!("part of it SHAKE takes; bytes of stack.\n");
     println!("{}", line(HEADS.map(str::to_string)));
 }
 

@@ -2,7 +2,7 @@
 
 use crate::lent::Fence;
 use crate::turn::Turn;
-use crate::world::World;
+use crate::world::{worlds, Worlds};
 use peer::rng::Rng;
 use std::ops::Range;
 use std::panic::{catch_unwind, AssertUnwindSafe};
@@ -12,7 +12,9 @@ use std::time::Instant;
 
 /// An entry: makes one input from its turn, compares, and gives the answer of both programs.
 pub struct Job {
-    pub name: &'static str,
+    pub name: String,
+    /// The place of its category among all, the first where none decides.
+    pub category: usize,
     pub inputs: usize,
     pub answers: &'static [u8],
     pub one: fn(&mut Turn) -> u8,
@@ -52,7 +54,7 @@ const ANSWERS: [&str; 11] = [
 
 fn line(name: &str, inputs: &str, cells: [String; 11], seconds: &str) -> String {
     let cells = cells.map(|cell| format!("{cell:>9}")).join(" ");
-    format!("{name:24} {inputs:>8} {cells} {seconds:>8}")
+    format!("{name:33} {inputs:>8} {cells} {seconds:>8}")
 }
 
 impl Run {
@@ -64,20 +66,20 @@ impl Run {
         assert!(jobs.iter().any(|job| chosen(&job)), "ONLY={} is no entry", self.only);
         println!("soak: SEED={}, {threads} at a time\n", self.seed);
         println!("{}", line("entry", "inputs", ANSWERS.map(str::to_string), "seconds"));
-        let (world, start, mut all) = (World::new(self.seed), Instant::now(), 0);
+        let (worlds, start, mut all) = (worlds(self.seed), Instant::now(), 0);
         for job in jobs.iter().filter(chosen) {
-            all += self.row(job, &world, threads);
+            all += self.row(job, &worlds, threads);
         }
         println!("\nsoak: {all} inputs agree, {:.0} seconds", start.elapsed().as_secs_f64());
     }
 
     /// Runs a job, prints its row, and gives the number of its inputs.
-    fn row(&self, job: &Job, world: &World, threads: usize) -> usize {
+    fn row(&self, job: &Job, worlds: &Worlds, threads: usize) -> usize {
         let start = Instant::now();
-        let tally = self.tally(job, world, threads);
+        let tally = self.tally(job, worlds, threads);
         let cells = tally.map(|times| if times == 0 { ".".to_string() } else { times.to_string() });
         let (inputs, seconds) = (tally.iter().sum(), start.elapsed().as_secs_f64());
-        println!("{}", line(job.name, &format!("{inputs}"), cells, &format!("{seconds:.1}")));
+        println!("{}", line(&job.name, &format!("{inputs}"), cells, &format!("{seconds:.1}")));
         self.judge(job, &tally, inputs);
         inputs
     }
@@ -88,12 +90,12 @@ impl Run {
         self.at.map_or(all, |at| at..at + 1)
     }
 
-    fn tally(&self, job: &Job, world: &World, threads: usize) -> Tally {
+    fn tally(&self, job: &Job, worlds: &Worlds, threads: usize) -> Tally {
         let range = self.range(job);
         let part = |thread: usize| {
             let mut tally = Tally::default();
             for at in range.clone().skip(thread).step_by(threads) {
-                tally[usize::from(self.one(job, world, at))] += 1;
+                tally[usize::from(self.one(job, worlds, at))] += 1;
             }
             tally
         };
@@ -105,10 +107,10 @@ impl Run {
     }
 
     /// One input. Where the programs differ it says how to repeat it, and ends everything.
-    fn one(&self, job: &Job, world: &World, at: usize) -> u8 {
+    fn one(&self, job: &Job, worlds: &Worlds, at: usize) -> u8 {
         let entry = job.name.bytes().fold(self.seed, |hash, byte| Rng::new(hash ^ u64::from(byte)).word());
         let rng = Rng::new(Rng::new(entry ^ at as u64).word());
-        let mut turn = Turn { rng, world, fence: self.fence };
+        let mut turn = Turn::new(rng, worlds, job.category, self.fence);
         catch_unwind(AssertUnwindSafe(|| (job.one)(&mut turn))).unwrap_or_else(|_| {
             println!("soak: FAILED {}; repeat it by SEED={} ONLY={} AT={at}", job.name, self.seed, job.name);
             exit(1)

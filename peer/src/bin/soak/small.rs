@@ -1,50 +1,62 @@
-//! Inputs for SHAKE128, packing and the samples.
+//! Inputs for SHAKE, packing and the samples.
 
-use crate::turn::{damaged, resized, size, PairInC, Turn};
-use peer::archive::c;
+use crate::turn::{damaged, resized, size, Turn};
+use peer::archive::c::{self, Pair};
+use peer::archive::CATEGORIES;
 use peer::bits::{lay, packed_size, Kind, EXPONENT, VALUE};
 use peer::draws::{shuffle_limit, Draw, EXPONENTS, FIRST_CHALLENGES, VALUES};
 use peer::entries;
-use peer::harness::Function;
+use peer::keccak::{SHAKE128_RATE, SHAKE256_RATE};
 use peer::rng::Rng;
-use peer::sizes::{Sizes, CATEGORY_1};
+use peer::sizes::Sizes;
 
-const S: Sizes = CATEGORY_1;
-
-/// `shake128` has no answer; a turn wants one.
+/// SHAKE has no answer; a turn wants one.
 unsafe extern "C" fn shake128_in_c(input: *const u8, input_len: usize, out: *mut u8, out_len: usize) -> u8 {
     c::gridprofile_shake128(input, input_len, out, out_len);
     0
 }
 
-fn plain_shake128(input: &[u8], out: &mut [u8]) -> u8 {
-    entries::shake128(input, out);
+unsafe extern "C" fn shake256_in_c(input: *const u8, input_len: usize, out: *mut u8, out_len: usize) -> u8 {
+    c::gridprofile_shake256(input, input_len, out, out_len);
     0
 }
 
 /// Often at or beside the end of a block.
-fn hashed_len(rng: &mut Rng, most: usize) -> usize {
+fn hashed_len(rng: &mut Rng, rate: usize, most: usize) -> usize {
     match rng.below(3) {
-        0 => (168 * rng.below(4) + rng.below(5)).saturating_sub(2),
+        0 => (rate * rng.below(4) + rng.below(5)).saturating_sub(2),
         _ => rng.below(most),
     }
 }
 
-pub fn shake128(t: &mut Turn) -> u8 {
+fn shake(t: &mut Turn, rate: usize, proved: Pair, plain: fn(&[u8], &mut [u8])) -> u8 {
     let long = t.one_in(4_000);
-    let len = if long { 65_530 + t.rng.below(12) } else { hashed_len(&mut t.rng, 400) };
-    let room = hashed_len(&mut t.rng, 400);
+    let len = if long { 65_530 + t.rng.below(12) } else { hashed_len(&mut t.rng, rate, 400) };
+    let room = hashed_len(&mut t.rng, rate, 400);
     let mut input = t.rng.bytes(len);
     if t.one_in(4) {
         input.fill([0, 0xFF][t.rng.below(2)]);
     }
-    t.pair(shake128_in_c, plain_shake128, &input, room)
+    let plain = |input: &[u8], out: &mut [u8]| {
+        plain(input, out);
+        0
+    };
+    t.pair(proved, plain, &input, room)
 }
 
-/// Any number of them, often those of the scheme; now and then one or all out of range.
+pub fn shake128(t: &mut Turn) -> u8 {
+    shake(t, SHAKE128_RATE, shake128_in_c, entries::shake128)
+}
+
+pub fn shake256(t: &mut Turn) -> u8 {
+    shake(t, SHAKE256_RATE, shake256_in_c, entries::shake256)
+}
+
+/// Any number of them, often those of a category; now and then one or all out of range.
 fn numbers(t: &mut Turn, kind: Kind) -> Vec<u8> {
+    let s = t.pick(&CATEGORIES).sizes;
     let count = match t.rng.below(4) {
-        0 => *t.pick(&[S.n, S.rows(), S.t, 8, 16]),
+        0 => *t.pick(&[s.n, s.rows(), s.t, 8, 16]),
         1 => t.rng.below(300),
         _ => t.rng.below(40),
     };
@@ -57,7 +69,7 @@ fn numbers(t: &mut Turn, kind: Kind) -> Vec<u8> {
     numbers
 }
 
-fn pack(t: &mut Turn, kind: Kind, proved: PairInC) -> u8 {
+fn pack(t: &mut Turn, kind: Kind, proved: Pair) -> u8 {
     let plain = if kind.width == VALUE.width { entries::pack_values } else { entries::pack_exponents };
     let numbers = numbers(t, kind);
     let room = size(&mut t.rng, packed_size(kind.width, numbers.len()), 13);
@@ -73,7 +85,7 @@ pub fn pack_exponents(t: &mut Turn) -> u8 {
 }
 
 /// Packed numbers, some with a bad field, a spare bit or another size.
-fn unpack(t: &mut Turn, kind: Kind, proved: PairInC) -> u8 {
+fn unpack(t: &mut Turn, kind: Kind, proved: Pair) -> u8 {
     let plain = if kind.width == VALUE.width { entries::unpack_values } else { entries::unpack_exponents };
     let numbers: Vec<u32> = numbers(t, kind).iter().map(|&x| u32::from(x % (1 << kind.width))).collect();
     let mut packed = lay(&numbers, kind.width);
@@ -111,9 +123,9 @@ fn tight_block(rng: &mut Rng, draw: Draw, size: usize, count: usize) -> Vec<u8> 
 }
 
 /// A block for the shuffle with about as many dropped fields as can be spared.
-fn tight_shuffle(rng: &mut Rng) -> Vec<u8> {
-    let fields = S.second_challenge_block / 2;
-    let (mut drops, mut j) = (fields - (S.t - 1) + rng.below(5) - 2, S.t - 1);
+fn tight_shuffle(rng: &mut Rng, size: usize, count: usize) -> Vec<u8> {
+    let fields = size / 2;
+    let (mut drops, mut j) = (fields - (count - 1) + rng.below(5) - 2, count - 1);
     let mut field = |at: usize| {
         let limit = if j == 0 { 65_536 } else { shuffle_limit(j) as usize };
         let drop = limit < 65_536 && rng.below(fields - at) < 2 * drops;
@@ -128,59 +140,56 @@ fn tight_shuffle(rng: &mut Rng) -> Vec<u8> {
     lay(&fields, 16)
 }
 
-/// One of the entries that draw from a block.
+/// One of the entries that draw from a block: numbers of a kind, or where it has none the shuffle.
 struct Sample {
-    proved: PairInC,
-    plain: Function,
-    block: usize,
-    count: usize,
-    tight: fn(&mut Rng) -> Vec<u8>,
+    proved: Pair,
+    plain: fn(&Sizes, &[u8], &mut [u8]) -> u8,
+    block: fn(&Sizes) -> usize,
+    count: fn(&Sizes) -> usize,
+    draw: Option<Draw>,
 }
 
 fn sample(t: &mut Turn, entry: &Sample) -> u8 {
-    let mut block = t.rng.bytes(entry.block);
+    let (size, count) = ((entry.block)(t.taken), (entry.count)(t.taken));
+    let mut block = t.rng.bytes(size);
     match t.rng.below(8) {
-        0 => {
-            let end = t.rng.below(entry.block);
-            block[..end].fill(0xFF);
-        }
+        0 => block[..t.rng.below(size)].fill(0xFF),
         1 => block.fill([0, 0xFF][t.rng.below(2)]),
-        2..=4 => block = (entry.tight)(&mut t.rng),
-        5 => block = resized(&mut t.rng, &block, 0),
+        2..=4 => {
+            block = match entry.draw {
+                Some(draw) => tight_block(&mut t.rng, draw, size, count),
+                None => tight_shuffle(&mut t.rng, size, count),
+            }
+        }
+        5 => block.resize(t.size_of(entry.block, 0), 0),
         _ => (),
     }
-    let room = size(&mut t.rng, entry.count, 15);
-    t.pair(entry.proved, entry.plain, &block, room)
+    let (s, room) = (t.sizes(), t.size_of(entry.count, 15));
+    t.pair(entry.proved, |block, out| (entry.plain)(s, block, out), &block, room)
 }
 
 pub fn sample_matrix(t: &mut Turn) -> u8 {
-    let (block, count) = (S.matrix_block, S.matrix());
-    let tight = |rng: &mut Rng| tight_block(rng, VALUES, S.matrix_block, S.matrix());
-    sample(t, &Sample { proved: c::gridprofile_sample_matrix, plain: entries::sample_matrix, block, count, tight })
+    let (proved, plain) = (t.world.category.functions.sample_matrix, entries::sample_matrix);
+    sample(t, &Sample { proved, plain, block: |s| s.matrix_block, count: Sizes::matrix, draw: Some(VALUES) })
 }
 
 pub fn sample_exponents(t: &mut Turn) -> u8 {
-    let (block, count) = (S.exponents_block, S.n);
-    let tight = |rng: &mut Rng| tight_block(rng, EXPONENTS, S.exponents_block, S.n);
-    sample(
-        t,
-        &Sample { proved: c::gridprofile_sample_exponents, plain: entries::sample_exponents, block, count, tight },
-    )
+    let (proved, plain) = (t.world.category.functions.sample_exponents, entries::sample_exponents);
+    sample(t, &Sample { proved, plain, block: |s| s.exponents_block, count: |s| s.n, draw: Some(EXPONENTS) })
 }
 
 pub fn sample_mask_values(t: &mut Turn) -> u8 {
-    let (proved, plain) = (c::gridprofile_sample_mask_values, entries::sample_mask_values);
-    let tight = |rng: &mut Rng| tight_block(rng, VALUES, S.mask_values_block, S.n);
-    sample(t, &Sample { proved, plain, block: S.mask_values_block, count: S.n, tight })
+    let (proved, plain) = (t.world.category.functions.sample_mask_values, entries::sample_mask_values);
+    sample(t, &Sample { proved, plain, block: |s| s.mask_values_block, count: |s| s.n, draw: Some(VALUES) })
 }
 
 pub fn sample_first_challenges(t: &mut Turn) -> u8 {
-    let (proved, plain) = (c::gridprofile_sample_first_challenges, entries::sample_first_challenges);
-    let tight = |rng: &mut Rng| tight_block(rng, FIRST_CHALLENGES, S.first_challenges_block, S.t);
-    sample(t, &Sample { proved, plain, block: S.first_challenges_block, count: S.t, tight })
+    let (proved, plain) = (t.world.category.functions.sample_first_challenges, entries::sample_first_challenges);
+    let draw = Some(FIRST_CHALLENGES);
+    sample(t, &Sample { proved, plain, block: |s| s.first_challenges_block, count: |s| s.t, draw })
 }
 
 pub fn sample_second_challenge(t: &mut Turn) -> u8 {
-    let (proved, plain) = (c::gridprofile_sample_second_challenge, entries::sample_second_challenge);
-    sample(t, &Sample { proved, plain, block: S.second_challenge_block, count: S.t, tight: tight_shuffle })
+    let (proved, plain) = (t.world.category.functions.sample_second_challenge, entries::sample_second_challenge);
+    sample(t, &Sample { proved, plain, block: |s| s.second_challenge_block, count: |s| s.t, draw: None })
 }

@@ -3,41 +3,38 @@
 use crate::lent::shown;
 use crate::lines::line;
 use crate::turn::{damaged, number, resized, size, Turn};
-use crate::world::{Package, S};
+use crate::world::Package;
 use peer::archive::c;
-use peer::fast::scheme as plain;
 use peer::line::cases::{any_image, valid};
 use peer::line::{image, read_line, write_line, Profile, IMAGE, LONGEST, SHORTEST};
 use peer::rng::Rng;
-use peer::store::{self, Device, Store, CAPACITY};
+use peer::sizes::Sizes;
+use peer::store::{self, package_lengths, Device, Store, CAPACITY};
 
-/// Bytes of a signature.
-const SIGNATURE: usize = 19_152;
-const LONGEST_PACKAGE: usize = SIGNATURE + LONGEST;
+fn longest_package(s: &Sizes) -> usize {
+    *package_lengths(s).end()
+}
 
 /// One of 50 has the right sizes and a valid line, and of the others few.
 pub fn make_package(t: &mut Turn) -> u8 {
     let whole = t.one_in(50);
-    let right = if whole { 16 } else { 8 };
-    let seeds = [S.key_seed, S.round_seed, S.salt].map(|len| {
-        let bytes = t.rng.bytes(len);
-        resized(&mut t.rng, &bytes, right)
-    });
+    let seeds = t.seeds(if whole { 16 } else { 8 });
     let line = if whole { write_line(&valid(&mut t.rng)).expect("valid") } else { line(&mut t.rng) };
-    let room = size(&mut t.rng, LONGEST_PACKAGE, if whole { 16 } else { 12 });
+    let room = t.size_of(longest_package, if whole { 16 } else { 12 });
     compare_make_package(t, &seeds, &line, room)
 }
 
 fn compare_make_package(t: &mut Turn, seeds: &[Vec<u8>; 3], line: &[u8], room: usize) -> u8 {
-    let seeds = seeds.each_ref().map(|seed| &seed[..]);
+    let (seeds, category) = (seeds.each_ref().map(|seed| &seed[..]), t.world.category);
     let mut expected = t.rng.bytes(room);
     let lent = t.lend_all([seeds[0], seeds[1], seeds[2], line]);
     let (mut out, mut length) = (t.lend(&expected), t.lend_length());
     let [(a, b), (c, d), (e, f), (g, h)] = lent.each_ref().map(|l| (l.pointer(), l.len()));
     let (i, j) = (out.pointer_mut(), out.len());
     // SAFETY: the buffers are alive for the call and do not overlap.
-    let answer = unsafe { c::gridprofile_make_package(a, b, c, d, e, f, g, h, i, j, length.pointer_mut()) };
-    let due = store::make_package_by(seeds, line, &mut expected, length.held, &plain::sign);
+    let answer = unsafe { (category.functions.make_package)(a, b, c, d, e, f, g, h, i, j, length.pointer_mut()) };
+    let (s, sign) = (&category.sizes, &category.plain.sign);
+    let due = store::make_package_by(s, seeds, line, &mut expected, length.held, sign);
     let inputs = || [seeds[0], seeds[1], seeds[2], line].map(shown).join(", ");
     assert_eq!((answer, length.value()), due, "answer and length on {} into {room} bytes", inputs());
     lent.iter().for_each(|l| l.demand_unchanged());
@@ -97,37 +94,38 @@ struct Loading {
 }
 
 /// Ends of the lengths that are looked at.
-const LENGTHS: [usize; 9] = [
-    0,
-    1,
-    SIGNATURE - 1,
-    SIGNATURE,
-    SIGNATURE + 1,
-    SIGNATURE + SHORTEST - 1,
-    SIGNATURE + SHORTEST,
-    LONGEST_PACKAGE,
-    LONGEST_PACKAGE + 1,
-];
+fn ends(s: &Sizes) -> [usize; 9] {
+    let (signature, lengths) = (s.signature(), package_lengths(s));
+    let [first, last] = [*lengths.start(), *lengths.end()];
+    [0, 1, signature - 1, signature, signature + 1, first - 1, first, last, last + 1]
+}
 
 impl Loading {
-    /// A size or the device's setting, or two of them, are wrong.
-    fn refused_early(&mut self, rng: &mut Rng) {
-        for _ in 0..1 + rng.below(2) {
-            match rng.below(5) {
-                0 => self.image = resized(rng, &self.image, 0),
-                1 => self.key = resized(rng, &self.key, 0),
-                2 => self.package.resize(LENGTHS[rng.below(LENGTHS.len())], b'7'),
-                3 => self.package = resized(rng, &self.package, 0),
-                _ => no_device(rng, &mut self.country, &mut self.class),
+    /// A size, the category or the device's setting, or two of them, are wrong.
+    fn refused_early(&mut self, t: &mut Turn) {
+        for _ in 0..1 + t.rng.below(2) {
+            let other = t.other();
+            match t.rng.below(8) {
+                0 => self.image = resized(&mut t.rng, &self.image, 0),
+                1 => self.key = resized(&mut t.rng, &self.key, 0),
+                2 => self.package.resize(*t.pick(&ends(t.sizes())), b'7'),
+                3 => self.package = resized(&mut t.rng, &self.package, 0),
+                4 => self.package.clone_from(&t.pick(&other.packages).bytes),
+                5 => {
+                    self.key.clone_from(&other.key);
+                    self.package.clone_from(&t.pick(&other.packages).bytes);
+                }
+                _ => no_device(&mut t.rng, &mut self.country, &mut self.class),
             }
         }
     }
 
     /// Package or key damaged, or the device set to another country or class; half of them are left.
-    fn spoilt(&mut self, rng: &mut Rng) {
+    fn spoilt(&mut self, t: &mut Turn) {
+        let (line, rng) = (t.sizes().signature(), &mut t.rng);
         match rng.below(16) {
             0..=3 => self.package = damaged(rng, &self.package),
-            4 => self.package[SIGNATURE..][rng.below(SHORTEST)] ^= 1 << rng.below(8),
+            4 => self.package[line..][rng.below(SHORTEST)] ^= 1 << rng.below(8),
             5 => self.key = damaged(rng, &self.key),
             6 => self.class = 65 + rng.below(4) as u32,
             7 => self.country[rng.below(2)] = b'A' + rng.below(26) as u8,
@@ -147,27 +145,28 @@ pub fn load(t: &mut Turn) -> u8 {
         class: u32::from(profile.class),
     };
     if t.one_in(8) {
-        input.spoilt(&mut t.rng);
+        input.spoilt(t);
     } else {
-        input.refused_early(&mut t.rng);
+        input.refused_early(t);
     }
     compare_load(t, &input)
 }
 
 fn compare_load(t: &mut Turn, input: &Loading) -> u8 {
     let Loading { image, key, package, country, class } = input;
-    let (mut store, mut expected) = (t.lend(image), image.clone());
+    let (category, mut store, mut expected) = (t.world.category, t.lend(image), image.clone());
     let lent = t.lend_all([key, package, country]);
     let [(a, b), (c, d), (e, f)] = lent.each_ref().map(|l| (l.pointer(), l.len()));
     // SAFETY: as above.
-    let answer = unsafe { c::gridprofile_load(store.pointer_mut(), store.len(), a, b, c, d, e, f, *class) };
-    let due = store::load(&mut expected, key, package, &Device { country, class: *class }, &plain::verify);
+    let answer = unsafe { (category.functions.load)(store.pointer_mut(), store.len(), a, b, c, d, e, f, *class) };
+    let (s, device, verify) = (&category.sizes, Device { country, class: *class }, &category.plain.verify);
+    let due = store::load(s, &mut expected, key, package, &device, verify);
     assert_eq!(answer, due, "answer on {} for {country:?} {class}, store {}", shown(package), shown(image));
     lent.iter().for_each(|l| l.demand_unchanged());
     if answer == 0 {
         let [own, other] = [store.content(), &expected].map(|image| Store::from_image(image).sorted());
         assert_eq!(own, other, "the store after a package for {country:?} {class}");
-        let profile = read_line(&package[SIGNATURE..]).expect("a line that was loaded");
+        let profile = read_line(&package[s.signature()..]).expect("a line that was loaded");
         assert!(
             store::wrote_one_slot(image, store.content(), &profile),
             "slots after a package for {country:?} {class}"

@@ -1,22 +1,71 @@
 //! One input: its own random numbers, the buffers lent for it, and the comparison.
 
 use crate::lent::{shown, Fence, Lent, LentLength};
-use crate::world::World;
-use peer::harness::Function;
+use crate::world::{World, Worlds};
+use peer::archive::c::Pair;
 use peer::rng::Rng;
+use peer::sizes::Sizes;
 use std::array::from_fn;
 
-pub type PairInC = unsafe extern "C" fn(*const u8, usize, *mut u8, usize) -> u8;
 pub type LengthInC = unsafe extern "C" fn(*const u8, usize, *mut u8, usize, *mut usize) -> u8;
 pub type Length = fn(&[u8], &mut [u8], usize) -> (u8, usize);
 
 pub struct Turn<'a> {
     pub rng: Rng,
+    /// Of the job's category.
     pub world: &'a World,
-    pub fence: Fence,
+    others: [&'a World; 2],
+    /// The sizes that this turn takes for the right ones: one of 16 takes those of another category.
+    pub taken: &'static Sizes,
+    fence: Fence,
 }
 
-impl Turn<'_> {
+/// Private seed, master seed and salt.
+const SEEDS: [fn(&Sizes) -> usize; 3] = [|s| s.key_seed, |s| s.round_seed, |s| s.salt];
+
+impl<'a> Turn<'a> {
+    pub fn new(rng: Rng, worlds: &'a Worlds, category: usize, fence: Fence) -> Turn<'a> {
+        let world = &worlds[category];
+        let others = [1, 2].map(|step| &worlds[(category + step) % worlds.len()]);
+        let mut turn = Turn { rng, world, others, taken: &world.category.sizes, fence };
+        if turn.one_in(16) {
+            turn.taken = &turn.other().category.sizes;
+        }
+        turn
+    }
+
+    pub fn sizes(&self) -> &'static Sizes {
+        &self.world.category.sizes
+    }
+
+    /// The world of another category.
+    pub fn other(&mut self) -> &'a World {
+        self.others[self.rng.below(self.others.len())]
+    }
+
+    /// The size of a buffer that the category decides: mostly the one that is taken for right, else that of
+    /// another category or what `size` gives.
+    pub fn size_of(&mut self, of: fn(&Sizes) -> usize, right_in_16: usize) -> usize {
+        let right = of(self.taken);
+        if self.rng.below(16) < right_in_16 {
+            return right;
+        }
+        match self.rng.below(4) {
+            0 => of(&self.other().category.sizes),
+            _ => size(&mut self.rng, right, 0),
+        }
+    }
+
+    /// Both seeds and the salt, each of such a size.
+    pub fn seeds(&mut self, right_in_16: usize) -> [Vec<u8>; 3] {
+        SEEDS.map(|of| self.bytes_of(of, right_in_16))
+    }
+
+    pub fn bytes_of(&mut self, of: fn(&Sizes) -> usize, right_in_16: usize) -> Vec<u8> {
+        let len = self.size_of(of, right_in_16);
+        self.rng.bytes(len)
+    }
+
     pub fn lend(&mut self, held: &[u8]) -> Lent {
         Lent::new(&mut self.rng, self.fence, held)
     }
@@ -39,7 +88,7 @@ impl Turn<'_> {
     }
 
     /// An entry that makes a buffer of `room` bytes from one input.
-    pub fn pair(&mut self, proved: PairInC, plain: Function, input: &[u8], room: usize) -> u8 {
+    pub fn pair(&mut self, proved: Pair, plain: impl Fn(&[u8], &mut [u8]) -> u8, input: &[u8], room: usize) -> u8 {
         let mut expected = self.rng.bytes(room);
         let (lent, mut out) = (self.lend(input), self.lend(&expected));
         // SAFETY: both buffers are alive for the call and do not overlap.
@@ -119,10 +168,11 @@ pub fn damaged(rng: &mut Rng, bytes: &[u8]) -> Vec<u8> {
 
 /// Numbers at and beside the ends of every range, and any.
 pub fn number(rng: &mut Rng) -> u32 {
-    let ends =
-        [0, 1, 2, 126, 127, 128, 163, 164, 255, 256, 257, 65_535, 65_536, 65_537, 1 << 31, u32::MAX - 1, u32::MAX];
+    let rounds = [163, 164, 245, 246, 327, 328];
+    let ends = [0, 1, 2, 126, 127, 128, 255, 256, 257, 65_535, 65_536, 65_537, 1 << 31, u32::MAX - 1, u32::MAX];
     match rng.below(4) {
         0 => rng.word() as u32,
+        1 => rounds[rng.below(rounds.len())],
         _ => ends[rng.below(ends.len())],
     }
 }

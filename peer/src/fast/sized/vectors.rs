@@ -1,11 +1,11 @@
-//! Vectors of category 1 as arrays of bytes, with sums in 32 bits.
+//! Vectors as arrays of bytes, with sums in 32 bits.
 
-use crate::sizes::CATEGORY_1;
+use super::S;
 
-pub const N: usize = CATEGORY_1.n;
-pub const K: usize = CATEGORY_1.k;
-pub const ROWS: usize = N - K;
-pub const MATRIX: usize = ROWS * K;
+pub const N: usize = S.n;
+pub const K: usize = S.k;
+pub const ROWS: usize = S.rows();
+pub const MATRIX: usize = S.matrix();
 
 pub type Vector = [u8; N];
 pub type Syndrome = [u8; ROWS];

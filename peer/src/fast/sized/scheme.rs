@@ -1,22 +1,24 @@
-//! Key making, signing and checking of category 1 over arrays, with no string joined in a buffer.
+//! Key making, signing and checking over arrays, with no string joined in a buffer.
 
-use super::keccak::{shake, Sponge};
-use super::packing::{lay, read};
-use super::sampling::{draw, shuffle};
 use super::vectors::{
     less_times, powers, response, scaled, syndrome, transformation, Syndrome, Vector, MATRIX, N, ROWS,
 };
+use super::S;
+use crate::fast::draws::{draw, shuffle};
+use crate::fast::keccak::{shake, Sponge};
+use crate::fast::packing::{lay, read};
 use crate::refusal::{demand, Refusal, BAD_FIELD, BAD_SIZE, MISMATCH, SHORT_DRAW};
-use crate::sizes::{Sizes, CATEGORY_1};
 
-const S: Sizes = CATEGORY_1;
 const T: usize = S.t;
 const SEED: usize = S.round_seed;
+const KEY_SEED: usize = S.key_seed;
+const KEY: usize = S.key();
+const SIGNATURE: usize = S.signature();
 const DIGEST: usize = S.digest;
-const VALUES: usize = 112;
-const EXPONENTS: usize = 48;
-const SYNDROME: usize = 45;
-const FIRST: usize = 143;
+const VALUES: usize = S.packed_values();
+const EXPONENTS: usize = S.packed_exponents();
+const SYNDROME: usize = S.packed_syndrome();
+const FIRST: usize = S.packed_challenges();
 
 type Hash = Sponge<{ S.rate }>;
 type Digest = [u8; DIGEST];
@@ -70,24 +72,24 @@ fn draw_second(c: &Digest, first: &[u8; T], h: &Digest, salt: &[u8], message: &[
 }
 
 struct Secret {
-    public_seed: [u8; 32],
+    public_seed: [u8; KEY_SEED],
     matrix: [u8; MATRIX],
     exponents: Vector,
 }
 
 fn secret_key(private_seed: &[u8]) -> Result<Secret, Refusal> {
-    let seeds: [u8; 64] = hash(&[&[12], private_seed]);
-    let matrix = draw_matrix(&seeds[32..])?;
-    let exponents = draw_exponents(&[&[10], &seeds[..32]])?;
-    Ok(Secret { public_seed: seeds[32..].try_into().unwrap(), matrix, exponents })
+    let seeds: [u8; 2 * KEY_SEED] = hash(&[&[12], private_seed]);
+    let matrix = draw_matrix(&seeds[KEY_SEED..])?;
+    let exponents = draw_exponents(&[&[10], &seeds[..KEY_SEED]])?;
+    Ok(Secret { public_seed: seeds[KEY_SEED..].try_into().unwrap(), matrix, exponents })
 }
 
 pub fn make_key(private_seed: &[u8], key: &mut [u8]) -> u8 {
     let make = |key: &mut [u8]| {
-        demand(private_seed.len() == S.key_seed && key.len() == S.key_seed + SYNDROME, BAD_SIZE)?;
+        demand(private_seed.len() == KEY_SEED && key.len() == KEY, BAD_SIZE)?;
         let secret = secret_key(private_seed)?;
-        key[..32].copy_from_slice(&secret.public_seed);
-        lay::<7>(&syndrome(&secret.matrix, &powers(&secret.exponents)), &mut key[32..]);
+        key[..KEY_SEED].copy_from_slice(&secret.public_seed);
+        lay::<7>(&syndrome(&secret.matrix, &powers(&secret.exponents)), &mut key[KEY_SEED..]);
         Ok(())
     };
     make(key).err().unwrap_or(0)
@@ -169,8 +171,8 @@ pub fn sign(private_seed: &[u8], master_seed: &[u8], salt: &[u8], message: &[u8]
 }
 
 fn signed(private_seed: &[u8], master_seed: &[u8], salt: &[u8], message: &[u8], out: &mut [u8]) -> Result<(), Refusal> {
-    demand(private_seed.len() == S.key_seed && master_seed.len() == SEED && salt.len() == S.salt, BAD_SIZE)?;
-    demand(message.len() <= S.message && out.len() == S.signature(), BAD_SIZE)?;
+    demand(private_seed.len() == KEY_SEED && master_seed.len() == SEED && salt.len() == S.salt, BAD_SIZE)?;
+    demand(message.len() <= S.message && out.len() == SIGNATURE, BAD_SIZE)?;
     let secret = secret_key(private_seed)?;
     let rounds = commit(&secret, master_seed, salt)?;
     let c0: Digest = hash(&[&[3], rounds.commitments_0.as_flattened()]);
@@ -217,11 +219,10 @@ struct Public {
 }
 
 fn verified(key: &[u8], message: &[u8], signature: &[u8]) -> Result<(), Refusal> {
-    demand(key.len() == S.key_seed + SYNDROME && message.len() <= S.message, BAD_SIZE)?;
-    demand(signature.len() == S.signature(), BAD_SIZE)?;
+    demand(key.len() == KEY && message.len() <= S.message && signature.len() == SIGNATURE, BAD_SIZE)?;
     let mut syndrome = [0; ROWS];
-    demand(read::<7, 127>(&key[32..], &mut syndrome), BAD_FIELD)?;
-    let public = Public { matrix: draw_matrix(&key[..32])?, syndrome };
+    demand(read::<7, 127>(&key[KEY_SEED..], &mut syndrome), BAD_FIELD)?;
+    let public = Public { matrix: draw_matrix(&key[..KEY_SEED])?, syndrome };
     let (salt, rest) = signature.split_at(S.salt);
     let (c, rest) = rest.split_first_chunk::<DIGEST>().unwrap();
     let (h, mut rest) = rest.split_first_chunk::<DIGEST>().unwrap();
@@ -275,24 +276,28 @@ mod tests {
     use super::*;
     use crate::rng::Rng;
     use crate::scheme;
+    use crate::sizes::CATEGORY_1;
+
+    /// Fewer where each costs more.
+    const TURNS: usize = 12 * CATEGORY_1.signature() / SIGNATURE;
 
     #[test]
     fn the_fast_scheme_is_the_scheme() {
         let mut rng = Rng::new(6);
-        for turn in 0..12 {
-            let (private_seed, master_seed, salt) = (rng.bytes(32), rng.bytes(16), rng.bytes(32));
+        for turn in 0..TURNS {
+            let (private_seed, master_seed, salt) = (rng.bytes(KEY_SEED), rng.bytes(SEED), rng.bytes(S.salt));
             let message = rng.bytes(turn * 50);
-            let (mut key, mut own_key) = (vec![0; 77], vec![0; 77]);
+            let (mut key, mut own_key) = (vec![0; KEY], vec![0; KEY]);
             assert_eq!(scheme::make_key(&S, &private_seed, &mut key), make_key(&private_seed, &mut own_key));
             assert_eq!(key, own_key);
-            let (mut signature, mut own) = (vec![0; 19_152], vec![0; 19_152]);
+            let (mut signature, mut own) = (vec![0; SIGNATURE], vec![0; SIGNATURE]);
             assert_eq!(scheme::sign(&S, &private_seed, &master_seed, &salt, &message, &mut signature), 0);
             assert_eq!(sign(&private_seed, &master_seed, &salt, &message, &mut own), 0);
             assert!(signature == own);
             assert_eq!(verify(&key, &message, &signature), 0);
             for _ in 0..20 {
                 let mut spoilt = signature.clone();
-                spoilt[rng.below(19_152)] ^= 1 << rng.below(8);
+                spoilt[rng.below(SIGNATURE)] ^= 1 << rng.below(8);
                 assert_eq!(verify(&key, &message, &spoilt), scheme::verify(&S, &key, &message, &spoilt));
             }
         }
