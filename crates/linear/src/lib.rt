@@ -88,7 +88,7 @@ fn row_sum_of(row: &[u8], x: &[u8], k: usize) -> u32
     sum
 }
 
-// The same for every length. A length in use is named, so that it has a loop with its constant.
+// The same for every length. Those in use, of categories 1, 3 and 5, are named, so that each has a loop with its constant.
 pub fn row_sum(row: &[u8], x: &[u8]) -> u32
     requires { ⌜ (length (now row) ≡ length (now x)) × (length (now x) ≤ 4096) × T (allBelow 127 (now row))
         × T (allBelow 127 (now x)) ⌝ }
@@ -97,6 +97,12 @@ pub fn row_sum(row: &[u8], x: &[u8]) -> u32
     let k = x.len();
     if k == 76 {
         return row_sum_of(row, x, 76);
+    }
+    if k == 111 {
+        return row_sum_of(row, x, 111);
+    }
+    if k == 150 {
+        return row_sum_of(row, x, 150);
     }
     row_sum_of(row, x, k)
 }
