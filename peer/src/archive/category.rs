@@ -37,6 +37,14 @@ macro_rules! pairs {
 }
 
 impl Category {
+    /// The name of an entry in C, after `gridprofile_`.
+    pub fn name_in_c(&self, entry: &str) -> String {
+        match self.number {
+            1 => entry.to_string(),
+            number => format!("category{number}_{entry}"),
+        }
+    }
+
     /// What a comparison at this category is called.
     pub fn named(&self, what: &str) -> String {
         format!("category {}, {what}", self.number)

@@ -1,7 +1,7 @@
 //! How time grows: from category to category, and with the message.
 
 use crate::measure::{least, Program};
-use crate::scheme::{name, signings, Job, Signed, INPUTS, JOBS, VERIFY};
+use crate::scheme::{signings, Job, Signed, INPUTS, JOBS, VERIFY};
 use crate::table::microseconds;
 use crate::work::permutations;
 use peer::archive::{CATEGORIES, CATEGORY_1};
@@ -37,7 +37,7 @@ fn by_category_of(job: &Job, cases: &[[Signed; INPUTS]]) {
     for (([at, ..], &time), &[hashed, multiplied]) in cases.iter().zip(&times).zip(&work) {
         let ratios = [time / times[0], hashed as f64 / work[0][0] as f64, multiplied as f64 / work[0][1] as f64];
         let [a, b, c] = ratios;
-        let entry = name(at.category, job.entry);
+        let entry = at.category.name_in_c(job.entry);
         println!("{a:8.2}  {b:12.2}  {c:8.2}  {entry:28} {:>13} {hashed:>13} {multiplied:>10}", microseconds(time));
     }
 }

@@ -33,7 +33,7 @@ fn main() {
     store::lookup(&stacks);
     small::hashing(&mut rng, &stacks);
     small::packing(&mut rng, &stacks);
-    let rounds = CATEGORIES.map(|category| scheme::name(&category, "verify_round"));
+    let rounds = CATEGORIES.map(|category| category.name_in_c("verify_round"));
     let rest = ["read_line", "write_line", "preview"].map(str::to_string);
     stacks.print(&[rounds, rest].concat());
     growth::by_category(&mut rng);

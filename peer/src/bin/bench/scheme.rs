@@ -17,14 +17,6 @@ pub const INPUTS: usize = 4;
 /// Bytes of a usual line.
 pub const LINE: usize = 56;
 
-/// The name of an entry in C, after `gridprofile_`.
-pub fn name(category: &Category, entry: &str) -> String {
-    match category.number {
-        1 => entry.to_string(),
-        number => format!("category{number}_{entry}"),
-    }
-}
-
 /// A signing, with everything that went into it.
 pub struct Signed {
     pub category: &'static Category,
@@ -117,7 +109,7 @@ impl Job {
 
 /// Times both programs and, in the same turns, the library's SHAKE over strings of the same lengths.
 pub fn row(c: &Category, entry: &str, stacks: &Stacks, strings: &Strings, library: Program, plain: Program) {
-    let name = name(c, entry);
+    let name = c.name_in_c(entry);
     let shake = if c.sizes.rate == SHAKE128_RATE { archive::shake128 } else { archive::shake256 };
     let longest = strings.iter().fold((0, 0), |most, &(len, drawn)| (most.0.max(len), most.1.max(drawn)));
     let (input, mut out) = (vec![0; longest.0], vec![0; longest.1]);

@@ -1,7 +1,6 @@
 //! Rows of the small entries: SHAKE, samples, packing.
 
 use crate::measure::least;
-use crate::scheme::name;
 use crate::stacks::Stacks;
 use crate::table::{print, Row};
 use peer::archive::{self, Category};
@@ -145,7 +144,7 @@ pub fn sampling(category: &Category, rng: &mut Rng, stacks: &Stacks) {
     for (entry, block, out_len, proved, plain) in samples(category) {
         let inputs = many(|| rng.bytes(block));
         let proved = |block: &[u8], out: &mut [u8]| proved(category, block, out);
-        row(stacks, Job { entry: name(category, entry), inputs: &inputs, out_len, proved: &proved, plain });
+        row(stacks, Job { entry: category.name_in_c(entry), inputs: &inputs, out_len, proved: &proved, plain });
     }
 }
 

@@ -60,20 +60,12 @@ static ENTRIES: [Entry; 21] = [
     Entry { name: "lookup", inputs: &[1_000_000], answers: &[0, 1, 5, 9, 10], one: store::lookup },
 ];
 
-/// The name of an entry in C, after `gridprofile_`.
-fn name(number: u8, entry: &str) -> String {
-    match number {
-        1 => entry.to_string(),
-        _ => format!("category{number}_{entry}"),
-    }
-}
-
 /// A job for each entry and category.
 pub fn all() -> Vec<Job> {
     let of_entry = |entry: &'static Entry| {
         let &Entry { name: entry, inputs, answers, one } = entry;
         let of_category = move |(category, &inputs): (usize, &usize)| {
-            let name = name(CATEGORIES[category].number, entry);
+            let name = CATEGORIES[category].name_in_c(entry);
             Job { name, category, inputs, answers, one }
         };
         inputs.iter().enumerate().map(of_category)
