@@ -58,11 +58,11 @@ extern "C" {
 
 /* Lines and the images of profiles, in bytes. */
 #define GRIDPROFILE_LINE_MIN_BYTES 42
-#define GRIDPROFILE_LINE_MAX_BYTES 72
-#define GRIDPROFILE_PROFILE_IMAGE_BYTES 64
+#define GRIDPROFILE_LINE_MAX_BYTES 84
+#define GRIDPROFILE_PROFILE_IMAGE_BYTES 76
 
 /* Where the fields of a profile's image begin. Used, country and class are bytes; a number has
- * four, low byte first; the last four fields are trip points. */
+ * four, low byte first; the last five fields are trip points. */
 #define GRIDPROFILE_USED_OFFSET 0
 #define GRIDPROFILE_COUNTRY_OFFSET 1
 #define GRIDPROFILE_CLASS_OFFSET 3
@@ -73,6 +73,7 @@ extern "C" {
 #define GRIDPROFILE_UNDER_VOLTAGE_OFFSET 28
 #define GRIDPROFILE_OVER_FREQUENCY_OFFSET 40
 #define GRIDPROFILE_UNDER_FREQUENCY_OFFSET 52
+#define GRIDPROFILE_RATE_OFFSET 64
 
 /* A trip point: its bytes, and where its three numbers begin in it. */
 #define GRIDPROFILE_TRIP_BYTES 12
@@ -85,6 +86,11 @@ extern "C" {
 #define GRIDPROFILE_KIND_ABOVE 1  /* millihertz above the nominal frequency */
 #define GRIDPROFILE_KIND_BELOW 2  /* millihertz below it */
 
+/* The last trip point, the rate of change of frequency in millihertz per second, may be absent. In
+ * the place of a kind it has one of these; where it is absent its limit and its delay mean nothing. */
+#define GRIDPROFILE_RATE_ABSENT 0
+#define GRIDPROFILE_RATE_PRESENT 1  /* and any other number */
+
 /* A preview: its longest input, and its listing, a header and GRIDPROFILE_STORE_SLOTS rows of at
  * most 16 bytes. */
 #define GRIDPROFILE_PREVIEW_MAX_BYTES 65536
@@ -92,8 +98,8 @@ extern "C" {
 
 /* Packages and the image of a store, in bytes. */
 #define GRIDPROFILE_PACKAGE_MIN_BYTES 19194
-#define GRIDPROFILE_PACKAGE_MAX_BYTES 19224
-#define GRIDPROFILE_STORE_IMAGE_BYTES 1024
+#define GRIDPROFILE_PACKAGE_MAX_BYTES 19236
+#define GRIDPROFILE_STORE_IMAGE_BYTES 1216
 
 /* Slots of a store, each the image of a profile. */
 #define GRIDPROFILE_STORE_SLOTS 16
@@ -225,19 +231,23 @@ uint8_t gridprofile_verify_round(const uint8_t *key, size_t key_len, const uint8
 
 /* Reads a profile line into the image of its profile, GRIDPROFILE_PROFILE_IMAGE_BYTES: a byte 1, the
  * country's two letters, the class letter, then numbers of four bytes each, low byte first: serial,
- * nominal volts, hertz, and for each of over-voltage, under-voltage, over-frequency and
- * under-frequency its kind (GRIDPROFILE_KIND_SHARE, _ABOVE or _BELOW), its limit without sign, and
- * its delay; the offsets above say where. Refuses with 1 where the image has another length or the
- * line has not GRIDPROFILE_LINE_MIN_BYTES to GRIDPROFILE_LINE_MAX_BYTES, then with 5 where the line
- * breaks a rule; bytes after its line feed do.
- * Stack: 512 bytes. */
+ * nominal volts, hertz, for each of over-voltage, under-voltage, over-frequency and under-frequency
+ * its kind (GRIDPROFILE_KIND_SHARE, _ABOVE or _BELOW), its limit without sign, and its delay, and
+ * for the rate of change of frequency GRIDPROFILE_RATE_PRESENT, its limit and its delay after a
+ * line that begins with GP2, and three numbers 0 after one that begins with GP1; the offsets above
+ * say where. Refuses with 1 where the image has another length or the line has not
+ * GRIDPROFILE_LINE_MIN_BYTES to GRIDPROFILE_LINE_MAX_BYTES, then with 5 where the line breaks a
+ * rule; bytes after its line feed do.
+ * Stack: 576 bytes. */
 uint8_t gridprofile_read_line(const uint8_t *line, size_t line_len, uint8_t *profile,
                               size_t profile_len);
 
 /* Writes the line of a profile's image at the front of GRIDPROFILE_LINE_MAX_BYTES lent bytes, and
- * its length to *length; bytes past it are not touched. The image's first byte is not looked at, and
- * a kind over GRIDPROFILE_KIND_ABOVE is a frequency below nominal. Refuses with 1 where either
- * length is another, then with 5 where the profile breaks a rule; *length is then as it was.
+ * its length to *length; bytes past it are not touched. The line begins with GP2 exactly where the
+ * rate point is present, and else with GP1. The image's first byte is not looked at, a kind over
+ * GRIDPROFILE_KIND_ABOVE is a frequency below nominal, and of a rate point that is absent neither
+ * limit nor delay is looked at. Refuses with 1 where either length is another, then with 5 where the
+ * profile breaks a rule; *length is then as it was.
  * Stack: 320 bytes. */
 uint8_t gridprofile_write_line(const uint8_t *profile, size_t profile_len, uint8_t *line,
                                size_t line_len, size_t *length);
@@ -249,7 +259,7 @@ uint8_t gridprofile_write_line(const uint8_t *profile, size_t profile_len, uint8
  * GRIDPROFILE_LISTING_BYTES lent bytes, and its length in *length; bytes past it are not touched. An
  * input of more than GRIDPROFILE_PREVIEW_MAX_BYTES gives only the text "too long" and a line feed.
  * Refuses with 1 where out_len is another; *length is then as it was.
- * Stack: 1600 bytes. */
+ * Stack: 1856 bytes. */
 uint8_t gridprofile_preview(const uint8_t *input, size_t input_len, uint8_t *out, size_t out_len,
                             size_t *length);
 
@@ -258,7 +268,7 @@ uint8_t gridprofile_preview(const uint8_t *input, size_t input_len, uint8_t *out
  * touched. Seeds and salt are as for gridprofile_sign. Refuses with 1 where one of them or the
  * buffer has another length or the line has no line's length; with 5 where the line breaks a rule;
  * with 2 where a draw is short. *length is then as it was.
- * Stack: 70208 bytes. */
+ * Stack: 70272 bytes. */
 uint8_t gridprofile_make_package(const uint8_t *private_seed, size_t private_seed_len,
                                  const uint8_t *master_seed, size_t master_seed_len,
                                  const uint8_t *salt, size_t salt_len, const uint8_t *line,
@@ -284,7 +294,7 @@ uint8_t gridprofile_make_package(const uint8_t *private_seed, size_t private_see
  * gridprofile_verify does; with 5 where the line breaks a rule; with 6 where the profile is for
  * another country or class; with 7 where its serial is not greater than the stored one; with 8
  * where GRIDPROFILE_STORE_SLOTS others are stored.
- * Stack: 16832 bytes. */
+ * Stack: 16896 bytes. */
 uint8_t gridprofile_load(uint8_t *store, size_t store_len, const uint8_t *key, size_t key_len,
                          const uint8_t *package, size_t package_len, const uint8_t *country,
                          size_t country_len, uint32_t class_letter);
@@ -294,7 +304,7 @@ uint8_t gridprofile_load(uint8_t *store, size_t store_len, const uint8_t *key, s
  * or buffer have another length; with 9 where nothing is stored for them; with 5 where what is
  * stored breaks a rule, which is never so in an image of zeros or in what loads made of one.
  * *length is then as it was.
- * Stack: 320 bytes. */
+ * Stack: 384 bytes. */
 uint8_t gridprofile_lookup(const uint8_t *store, size_t store_len, const uint8_t *country,
                            size_t country_len, uint32_t class_letter, uint8_t *line,
                            size_t line_len, size_t *length);

@@ -31,7 +31,7 @@ extern "C" {
 
 /* Packages, in bytes. */
 #define GRIDPROFILE_CATEGORY3_PACKAGE_MIN_BYTES 42724
-#define GRIDPROFILE_CATEGORY3_PACKAGE_MAX_BYTES 42754
+#define GRIDPROFILE_CATEGORY3_PACKAGE_MAX_BYTES 42766
 
 /* Blocks that numbers are drawn from, in bytes. */
 #define GRIDPROFILE_CATEGORY3_MATRIX_BLOCK_BYTES 7616
@@ -118,7 +118,7 @@ uint8_t gridprofile_category3_verify_round(const uint8_t *key, size_t key_len, c
  * GRIDPROFILE_CATEGORY3_PACKAGE_MAX_BYTES lent bytes, and its length to *length; bytes past it are
  * not touched. Seeds and salt are as for gridprofile_category3_sign. Refuses with 1, 5 and 2;
  * *length is then as it was.
- * Stack: 145472 bytes. */
+ * Stack: 145536 bytes. */
 uint8_t gridprofile_category3_make_package(const uint8_t *private_seed, size_t private_seed_len,
                                            const uint8_t *master_seed, size_t master_seed_len,
                                            const uint8_t *salt, size_t salt_len,
@@ -129,7 +129,7 @@ uint8_t gridprofile_category3_make_package(const uint8_t *private_seed, size_t p
  * GRIDPROFILE_CATEGORY3_PACKAGE_MAX_BYTES into a store, as gridprofile_load does, which says what a
  * store is and how it outlasts a loss of power. Refuses with 10, 1, 3, 2, 4, 5, 6, 7 and 8 in that
  * function's order.
- * Stack: 25472 bytes. */
+ * Stack: 25536 bytes. */
 uint8_t gridprofile_category3_load(uint8_t *store, size_t store_len, const uint8_t *key,
                                    size_t key_len, const uint8_t *package, size_t package_len,
                                    const uint8_t *country, size_t country_len,

@@ -31,7 +31,7 @@ extern "C" {
 
 /* Packages, in bytes. */
 #define GRIDPROFILE_CATEGORY5_PACKAGE_MIN_BYTES 76340
-#define GRIDPROFILE_CATEGORY5_PACKAGE_MAX_BYTES 76370
+#define GRIDPROFILE_CATEGORY5_PACKAGE_MAX_BYTES 76382
 
 /* Blocks that numbers are drawn from, in bytes. */
 #define GRIDPROFILE_CATEGORY5_MATRIX_BLOCK_BYTES 13664
@@ -129,7 +129,7 @@ uint8_t gridprofile_category5_make_package(const uint8_t *private_seed, size_t p
  * GRIDPROFILE_CATEGORY5_PACKAGE_MAX_BYTES into a store, as gridprofile_load does, which says what a
  * store is and how it outlasts a loss of power. Refuses with 10, 1, 3, 2, 4, 5, 6, 7 and 8 in that
  * function's order.
- * Stack: 38272 bytes. */
+ * Stack: 38336 bytes. */
 uint8_t gridprofile_category5_load(uint8_t *store, size_t store_len, const uint8_t *key,
                                    size_t key_len, const uint8_t *package, size_t package_len,
                                    const uint8_t *country, size_t country_len,

@@ -15,7 +15,7 @@ ghost use Rattle.profile.specs.Rules.{classes};
 ghost use Rattle.image.specs.Entries.{ReadsImage, WritesProfileLine, WritesImage};
 
 // The length of the image of a profile.
-pub const PROFILE_SIZE: usize = 64;
+pub const PROFILE_SIZE: usize = 76;
 
 // Reads a line into the image of its profile.
 pub fn read_line_image(line: &[u8], profile: &mut [u8]) -> u8

@@ -2,11 +2,12 @@
 use profile::Country;
 use profile::Limit;
 use profile::Profile;
+use profile::RatePoint;
 use profile::Trip;
 ghost use mathlib.Core.Path.{_≡_};
 ghost use Prim.Native.Nat.{_+_, _≤_};
 ghost use lib.ListN.{length};
-ghost use Rattle.image.specs.Image.{profileSize, number, wordAt, limitFrom, tripOf, profileOf};
+ghost use Rattle.image.specs.Image.{profileSize, number, wordAt, limitFrom, tripOf, rateOf, profileOf};
 
 fn join(a: u8, b: u8, c: u8, d: u8) -> u32
     ensures { λ r. ⌜ r ≡ number a b c d ⌝ }
@@ -52,6 +53,22 @@ fn trip_at(image: &[u8], at: usize) -> Trip
     }
 }
 
+fn rate_at(image: &[u8], at: usize) -> RatePoint
+    requires { ⌜ at + 12 ≤ length (now image) ⌝ }
+    ensures { λ r. ⌜ r ≡ rateOf (now (image .entry)) at ⌝ }
+{
+    if word_at(image, at) == 0 {
+        return RatePoint::Absent;
+    }
+    let limit = Limit::Rate(word_at(image, at + 4));
+    let delay = word_at(image, at + 8);
+    let trip = Trip {
+        limit: limit,
+        delay: delay,
+    };
+    RatePoint::Present(trip)
+}
+
 pub fn read_profile(image: &[u8]) -> Profile
     requires { ⌜ length (now image) ≡ profileSize ⌝ }
     ensures { λ r. ⌜ r ≡ profileOf (now (image .entry)) ⌝ }
@@ -64,6 +81,7 @@ pub fn read_profile(image: &[u8]) -> Profile
     let under_voltage = trip_at(image, 28);
     let over_frequency = trip_at(image, 40);
     let under_frequency = trip_at(image, 52);
+    let rate_of_change = rate_at(image, 64);
     Profile {
         country: country,
         class: image[3],
@@ -74,5 +92,6 @@ pub fn read_profile(image: &[u8]) -> Profile
         under_voltage: under_voltage,
         over_frequency: over_frequency,
         under_frequency: under_frequency,
+        rate_of_change: rate_of_change,
     }
 }

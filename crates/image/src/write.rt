@@ -1,15 +1,19 @@
-// Writing the image of a profile. That a value fits, as every value of its type does, is ensured along with its bytes:
-// so the image means the profile.
+// Writing the image of a profile. That numbers are below 2^32, as every value of their type is, is ensured along with their
+// bytes: so the image means the profile.
 use profile::Profile;
+use profile::RatePoint;
 use profile::Trip;
+use profile::rules::RATE;
 use profile::rules::kind_of;
 use profile::rules::size_of;
 ghost use mathlib.Core.Path.{_≡_};
+ghost use mathlib.Core.Bool.{true};
+ghost use mathlib.Core.List.{_++_};
 ghost use Prim.Native.Nat.{_+_, _≤_, _%_};
 ghost use lib.ListN.{length};
 ghost use Rattle.decimal.specs.Decimal.{Appended};
-ghost use Rattle.image.specs.Image.{profileSize, word, headImage, ratingsImage, tripImage, tripsImage};
-ghost use Rattle.image.specs.Image.{TripFits, TripsFit, ProfileWritten};
+ghost use Rattle.image.specs.Image.{profileSize, word, headImage, tripImage, rateImage, tripsImage};
+ghost use Rattle.image.specs.Image.{isRate, isRatePoint, hasImage, Small, TripFits, RateFits, TripsFit, ProfileWritten};
 
 fn low(n: u32) -> u8
     ensures { λ r. ⌜ r ≡ n % 256 ⌝ }
@@ -17,7 +21,7 @@ fn low(n: u32) -> u8
     (n % 256) as u8
 }
 
-// Writes a number from place `at`, and returns the place after it. So do the next three.
+// Writes a number from place `at`, and returns the place after it. So do the next four.
 fn append_word(n: u32, out: &mut [u8], at: usize) -> usize
     requires { ⌜ at + 4 ≤ length (now out) ⌝ }
     ensures { λ r. ⌜ Appended (now (out .entry)) at (word n) (now (out .exit)) r ⌝ }
@@ -29,6 +33,17 @@ fn append_word(n: u32, out: &mut [u8], at: usize) -> usize
     at + 4
 }
 
+// Three numbers: serial, volts and hertz, or those of a trip point.
+fn append_words(a: u32, b: u32, c: u32, out: &mut [u8], at: usize) -> usize
+    requires { ⌜ at + 12 ≤ length (now out) ⌝ }
+    ensures { λ r. ⌜ Appended (now (out .entry)) at (word a ++ (word b ++ word c)) (now (out .exit)) r ⌝ }
+    ensures { λ r. ⌜ Small a × Small b × Small c ⌝ }
+{
+    let second = append_word(a, out, at);
+    let third = append_word(b, out, second);
+    append_word(c, out, third)
+}
+
 fn append_trip(t: Trip, out: &mut [u8], at: usize) -> usize
     requires { ⌜ at + 12 ≤ length (now out) ⌝ }
     ensures { λ r. ⌜ Appended (now (out .entry)) at (tripImage t) (now (out .exit)) r ⌝ }
@@ -36,23 +51,25 @@ fn append_trip(t: Trip, out: &mut [u8], at: usize) -> usize
 {
     let limit = t.limit;
     let kind = kind_of(limit) as u32;
-    let size = append_word(kind, out, at);
-    let delay = append_word(size_of(limit), out, size);
-    append_word(t.delay, out, delay)
+    append_words(kind, size_of(limit), t.delay, out, at)
 }
 
-// Serial, volts and hertz.
-fn append_ratings(p: Profile, out: &mut [u8], at: usize) -> usize
+fn append_rate(point: RatePoint, out: &mut [u8], at: usize) -> usize
     requires { ⌜ at + 12 ≤ length (now out) ⌝ }
-    ensures { λ r. ⌜ Appended (now (out .entry)) at (ratingsImage p) (now (out .exit)) r ⌝ }
+    ensures { λ r. ⌜ Appended (now (out .entry)) at (rateImage point) (now (out .exit)) r ⌝ }
+    ensures { λ r. ⌜ RateFits point ⌝ }
 {
-    let volts = append_word(p.serial, out, at);
-    let hertz = append_word(p.volts, out, volts);
-    append_word(p.hertz, out, hertz)
+    match point {
+        RatePoint::Absent => append_words(0, 0, 0, out, at),
+        RatePoint::Present(t) => {
+            let limit = t.limit;
+            append_words(1, size_of(limit), t.delay, out, at)
+        }
+    }
 }
 
 fn append_trips(p: Profile, out: &mut [u8], at: usize) -> usize
-    requires { ⌜ at + 48 ≤ length (now out) ⌝ }
+    requires { ⌜ at + 60 ≤ length (now out) ⌝ }
     ensures { λ r. ⌜ Appended (now (out .entry)) at (tripsImage p) (now (out .exit)) r ⌝ }
     ensures { λ r. ⌜ TripsFit p ⌝ }
 {
@@ -63,7 +80,9 @@ fn append_trips(p: Profile, out: &mut [u8], at: usize) -> usize
     let over_frequency = p.over_frequency;
     let fourth = append_trip(over_frequency, out, third);
     let under_frequency = p.under_frequency;
-    append_trip(under_frequency, out, fourth)
+    let fifth = append_trip(under_frequency, out, fourth);
+    let rate_of_change = p.rate_of_change;
+    append_rate(rate_of_change, out, fifth)
 }
 
 // The first byte, country and class.
@@ -79,11 +98,52 @@ fn append_head(p: Profile, out: &mut [u8]) -> usize
     4
 }
 
+fn is_rate(t: Trip) -> bool
+    ensures { λ r. ⌜ r ≡ isRate t ⌝ }
+{
+    let limit = t.limit;
+    kind_of(limit) == RATE
+}
+
+fn is_rate_point(point: RatePoint) -> bool
+    ensures { λ r. ⌜ r ≡ isRatePoint point ⌝ }
+{
+    match point {
+        RatePoint::Absent => true,
+        RatePoint::Present(t) => is_rate(t),
+    }
+}
+
+// Whether an image can mean the profile: one with a rate among its voltages has none.
+pub fn has_image(p: Profile) -> bool
+    ensures { λ r. ⌜ r ≡ hasImage p ⌝ }
+{
+    let over_voltage = p.over_voltage;
+    if is_rate(over_voltage) {
+        return false;
+    }
+    let under_voltage = p.under_voltage;
+    if is_rate(under_voltage) {
+        return false;
+    }
+    let over_frequency = p.over_frequency;
+    if is_rate(over_frequency) {
+        return false;
+    }
+    let under_frequency = p.under_frequency;
+    if is_rate(under_frequency) {
+        return false;
+    }
+    let rate_of_change = p.rate_of_change;
+    is_rate_point(rate_of_change)
+}
+
 pub fn write_profile(p: Profile, out: &mut [u8])
+    requires { ⌜ hasImage p ≡ true ⌝ }
     requires { ⌜ length (now out) ≡ profileSize ⌝ }
     ensures { λ r. ⌜ ProfileWritten p (now (out .exit)) ⌝ }
 {
     let ratings = append_head(p, out);
-    let trips = append_ratings(p, out, ratings);
+    let trips = append_words(p.serial, p.volts, p.hertz, out, ratings);
     append_trips(p, out, trips);
 }

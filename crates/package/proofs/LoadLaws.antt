@@ -13,6 +13,9 @@ use Rattle.profile.specs.declared.Profile.{Profile}
 use Rattle.outcome.specs.Result.{done}
 use Rattle.outcome.proofs.Checks.{both-passed, passed-front}
 use Rattle.profile.specs.Rules.{Class}
+use Rattle.profile.proofs.Theorems.{writes-read}
+use Rattle.image.specs.Image.{hasImage}
+use Rattle.image.proofs.Theorems.{valid-fits}
 use Rattle.outcome.proofs.Answering.{stops, goes-on}
 use Rattle.store.specs.declared.Device.{Device}
 use Rattle.store.specs.Keys.{deviceOf, deviceOk}
@@ -20,9 +23,17 @@ use Rattle.store.specs.Stored.{storeSize, stored}
 use Rattle.store.specs.Calls.{putNumber, Puts}
 use Rattle.store.proofs.PutLaws.{put-number, put-sized}
 use Rattle.package.specs.declared.load.Opened.the-variants as opening
-use Rattle.package.specs.Package.{storeChecks, openChecks, opened, loadChecks}
+use Rattle.package.specs.Package.{storeChecks, lineIn, openChecks, opened, loadChecks}
 use Rattle.package.specs.Entries.{Opens, Loads}
 use Rattle.package.proofs.OpenLaws.{opened-number, opened-passed, refusal-opened, profile-opened}
+
+-- what was opened is valid, and so an image can mean it
+opened-kinds : (p : Params) (table : List Class) (key sealed : List ℕ) {profile : Profile}
+    → Opens p table key sealed (opening.Profile profile) → hasImage profile ≡ true
+opened-kinds p table key sealed {profile} opens =
+    let found = profile-opened p table key sealed opens in
+    let read = sym (opened-passed p table key sealed (found .0)) ∙ found .1 in
+    valid-fits table profile (writes-read table (lineIn p sealed) profile read .1) .kinds
 
 module _ (p : Params) (table : List Class) (key sealed country : List ℕ) (class : ℕ) (old : List ℕ) where
   abbrev All : List Check
@@ -90,7 +101,9 @@ module _ (p : Params) (table : List Class) (key sealed country : List ℕ) (clas
             let found = profile-opened p table key sealed opens in
             let storing : r ≡ firstRefusal Storing =
             rw (found .1)
-            (puts .answer ∙ (put-sized device profile old size ∙ put-number device profile (stored old))) in
+            (puts .answer
+            ∙ (put-sized device profile old size (opened-kinds p table key sealed opens)
+            ∙ put-number device profile (stored old))) in
             record {
               answers = goes-on Opening Storing (sym (found .0)) refl storing ∙ sym behind;
               taken = λ z. (profile, sym (opened-passed p table key sealed (found .0)) ∙ found .1, puts .taken z);

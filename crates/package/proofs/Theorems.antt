@@ -14,6 +14,7 @@ use Rattle.outcome.specs.Result.{done}
 use Rattle.profile.specs.Rules.{Class}
 use Rattle.profile.specs.Line.{lineOf, readLine}
 use Rattle.profile.proofs.Theorems.{reads-written, writes-read}
+use Rattle.image.proofs.Theorems.{valid-fits}
 use Rattle.scheme.specs.Key.{publicKey}
 use Rattle.scheme.specs.Sign.{signatureSize, signature}
 use Rattle.scheme.proofs.Accepted.{accepted as verifies, length-signature}
@@ -86,12 +87,12 @@ module _ (p : Params) (table : List Class) where
   load-reaches calls key sealed country class old answer new run loads = (
     λ e.
         let t = accepted key sealed country class old answer new loads e in
-        let size = eqb-true (length old) storeSize (t .passes .whole) in (
+        let size = eqb-true (length old) storeSize (t .passes .whole) in
+        let ok = writes-read table (lineIn p sealed) (t .profile) (t .reads) .1 in (
           t .profile,
           t .reads,
-          reached-put table calls (deviceOf country class) (t .profile) old 0 new run
-              (writes-read table (lineIn p sealed) (t .profile) (t .reads) .1) (t .passes .device-ok) size
-              (takes size (t .puts) (t .taken)),
+          reached-put table calls (deviceOf country class) (t .profile) old 0 new run ok (t .passes .device-ok) size
+              (takes size (valid-fits table (t .profile) ok .kinds) (t .puts) (t .taken)),
         ),
     λ ne. subst (λ (image : List ℕ). Reached table calls (stored image)) (sym (loads .kept ne)) run,
   )

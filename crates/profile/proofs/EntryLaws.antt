@@ -14,7 +14,7 @@ use Rattle.profile.specs.declared.Profile.{Profile}
 use Rattle.profile.specs.declared.WriteLine.the-variants.{Written, BadSize, BadProfile}
 use Rattle.outcome.specs.Result.{done, refused}
 use Rattle.profile.specs.Rules.{_to_, contains, Class, valid}
-use Rattle.profile.specs.Line.{tag, shortest, longest, lineOf, scanned, readLine, writeLine, Writes}
+use Rattle.profile.specs.Line.{tag, shortest, longest, lineOf, kindIn, scanned, readLine, writeLine, Writes}
 use Rattle.profile.proofs.RuleLaws.{test, parts}
 use Rattle.profile.proofs.LineLaws.{line-lengths}
 
@@ -26,11 +26,11 @@ module _ (table : List Class) (line : List ℕ) where
   read-size size = rw size
 
   module _ (size : contains (shortest to longest) (length line) ≡ true) where
-    pub read-tag : same (take (length tag) line) tag ≡ false → readLine table line ≡ refused bad-profile
+    pub read-tag : same (take 4 line) (tag (kindIn line)) ≡ false → readLine table line ≡ refused bad-profile
     unfolding readLine
     read-tag tagged = rw (size, tagged)
 
-    module _ (tagged : same (take (length tag) line) tag ≡ true) where
+    module _ (tagged : same (take 4 line) (tag (kindIn line)) ≡ true) where
       pub read-broken : valid table (scanned line) ≡ false → readLine table line ≡ refused bad-profile
       unfolding readLine
       read-broken ok = rw (size, tagged, ok)

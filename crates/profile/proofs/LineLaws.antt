@@ -1,8 +1,8 @@
 -- Laws of lines: their lengths, and what is read from them. Assumes nothing.
 use mathlib.Core.Path.{_≡_, refl, _∙_, sym, ap, ap₂}
-use mathlib.Core.Bool.{true, false, false≢true}
+use mathlib.Core.Bool.{Bool, true, false, false≢true}
 use mathlib.Core.List.{List, [], _∷_, _++_, map, append-assoc, append-nil}
-use Prim.Native.Nat.{ℕ, _+_, max, _≤_, _<_}
+use Prim.Native.Nat.{ℕ, suc, _+_, max, _≤_, _<_}
 use native.Mathlib.Omega.{arith}
 use lib.Dec.{eqb, lit≤}
 use lib.ListN.{length, take, drop, getD, set, take-append-drop, length-append, drop-of-length-le}
@@ -13,14 +13,18 @@ use Rattle.decimal.specs.declared.Number.{Number}
 use Rattle.decimal.proofs.Decimal.{one-digit, number-before, after-before}
 use Rattle.decimal.proofs.Stores.{one-byte, then, appended-as, room-as, room-after}
 use Rattle.outcome.specs.Answer.{pick}
+use Rattle.outcome.specs.Lists.{same}
 use Rattle.profile.specs.declared.Limit.{Limit}
-use Rattle.profile.specs.declared.Limit.the-variants.{Share, Offset}
+use Rattle.profile.specs.declared.Limit.the-variants.{Share, Offset, Rate}
 use Rattle.profile.specs.declared.Trip.{Trip}
+use Rattle.profile.specs.declared.RatePoint.{RatePoint}
+use Rattle.profile.specs.declared.RatePoint.the-variants.{Absent, Present}
 use Rattle.profile.specs.declared.scan.TripRead.{TripRead}
 use Rattle.profile.specs.declared.Profile.{Profile}
-use Rattle.profile.specs.Rules.{share, above, below, plain, inOneOf, kindOf, sizeOf, Field, tripFields, fieldsOf, Rule, rules, fits, obeys}
-use Rattle.profile.specs.Line.{comma, minus, lineFeed, lead, fieldBytes, written, headOf, lineOf, shortest, longest, fieldNumber, afterField, numbersIn, limitOf, profileFrom, scanned}
-use Rattle.profile.specs.InnerPlaces.{FieldAt, TripAt}
+use Rattle.profile.specs.Rules.{share, above, below, plain, rate, inOneOf, kindOf, sizeOf, Field, tripFields, rateFields, fieldsOf, LineKind, GP1, GP2, kindFor, lineKind, rateRules, Rule, rules, fits, obeys}
+use Rattle.profile.specs.Line.{comma, minus, lineFeed, lead, fieldBytes, written, headOf, lineOf, shortest, longest, tag, fieldNumber, afterField, numbersIn, limitOf, rateFrom, profileFrom, kindIn, scanned}
+use Rattle.profile.specs.Theorems.{least, greatest}
+use Rattle.profile.specs.InnerPlaces.{FieldAt, TripAt, tripIn, rateIn, RateAt}
 use Rattle.profile.proofs.RuleLaws.{and-first, and-rest, same-kinds, fewest, most, top, range-bounds}
 
 -- ---- lengths
@@ -60,9 +64,22 @@ length-line p =
     length-append (headOf p) (written (fieldsOf p) ++ lineFeed ∷ [])
     ∙ ap (λ (n : ℕ). length (headOf p) + n) (length-append (written (fieldsOf p)) (lineFeed ∷ []))
 
-pub line-lengths : (p : Profile) → obeys rules (fieldsOf p) ≡ true → (shortest ≤ length (lineOf p)) × (length (lineOf p) ≤ longest)
+fields-within : (kind : LineKind) → (least kind ≤ 9 + shortestFields (rules kind)) × (9 + longestFields (rules kind) ≤ greatest kind)
 unfolding decimal lastDigits
-line-lengths p e = omega (arith, length-line p, length-written rules (fieldsOf p) e)
+fields-within GP1 = (lit≤ tt, lit≤ tt)
+fields-within GP2 = (lit≤ tt, lit≤ tt)
+
+pub kind-lengths : (p : Profile) → obeys (rules (lineKind p)) (fieldsOf p) ≡ true
+    → (least (lineKind p) ≤ length (lineOf p)) × (length (lineOf p) ≤ greatest (lineKind p))
+kind-lengths p e = omega (arith, length-line p, length-written (rules (lineKind p)) (fieldsOf p) e, fields-within (lineKind p))
+
+either-kind : (kind : LineKind) → (shortest ≤ least kind) × (greatest kind ≤ longest)
+either-kind GP1 = (lit≤ tt, lit≤ tt)
+either-kind GP2 = (lit≤ tt, lit≤ tt)
+
+pub line-lengths : (p : Profile) → obeys (rules (lineKind p)) (fieldsOf p) ≡ true
+    → (shortest ≤ length (lineOf p)) × (length (lineOf p) ≤ longest)
+line-lengths p e = omega (arith, kind-lengths p e, either-kind (lineKind p))
 
 -- ---- a line in the parts in which it is written
 
@@ -128,16 +145,20 @@ module _ (p : Profile) where
 
   pub trips-bytes : written (drop 3 (fieldsOf p))
       ≡ written (tripFields (p .«over_voltage»)) ++ (written (tripFields (p .«under_voltage»))
-      ++ (written (tripFields (p .«over_frequency»)) ++ written (tripFields (p .«under_frequency»))))
+      ++ (written (tripFields (p .«over_frequency»)) ++ (written (tripFields (p .«under_frequency»))
+      ++ written (rateFields (p .«rate_of_change»)))))
   unfolding fieldsOf
   trips-bytes =
       let fields₁ : List Field = tripFields (p .«over_voltage») in
       let fields₂ : List Field = tripFields (p .«under_voltage») in
       let fields₃ : List Field = tripFields (p .«over_frequency») in
       let fields₄ : List Field = tripFields (p .«under_frequency») in
-      written-append fields₁ (fields₂ ++ (fields₃ ++ fields₄))
+      let fields₅ : List Field = rateFields (p .«rate_of_change») in
+      written-append fields₁ (fields₂ ++ (fields₃ ++ (fields₄ ++ fields₅)))
       ∙ ap (λ (l : List ℕ). written fields₁ ++ l)
-      (written-append fields₂ (fields₃ ++ fields₄) ∙ ap (λ (l : List ℕ). written fields₂ ++ l) (written-append fields₃ fields₄))
+      (written-append fields₂ (fields₃ ++ (fields₄ ++ fields₅))
+      ∙ ap (λ (l : List ℕ). written fields₂ ++ l)
+      (written-append fields₃ (fields₄ ++ fields₅) ∙ ap (λ (l : List ℕ). written fields₃ ++ l) (written-append fields₄ fields₅)))
 
   pub line-bytes : lineOf p ≡ headOf p ++ (written (take 3 (fieldsOf p)) ++ (written (drop 3 (fieldsOf p)) ++ (lineFeed ∷ [])))
   unfolding lineOf
@@ -206,15 +227,47 @@ limit-known kind l e = rw (← e) (by-cases l)
     by-cases (Share n) = refl
     by-cases (Offset true n) = refl
     by-cases (Offset false n) = refl
+    by-cases (Rate n) = refl
 
-pub scanned-line : (p : Profile) → obeys rules (fieldsOf p) ≡ true → scanned (lineOf p) ≡ p
+-- a rate point, by the numbers of its fields
+rate-known : (point : RatePoint) (ns : List ℕ) (i : ℕ)
+    → map (λ (f : Field). f .kind) (rateFields point) ≡ map (λ (r : Rule). r .kind) (rateRules (kindFor point))
+    → getD ns i 0 ≡ getD (map (λ (f : Field). f .size) (rateFields point)) 0 0
+    → getD ns (suc i) 0 ≡ getD (map (λ (f : Field). f .size) (rateFields point)) 1 0
+    → rateFrom (kindFor point) ns i ≡ point
+rate-known Absent ns i kinds limit delay = refl
+rate-known (Present t) ns i kinds limit delay =
+    let known : limitOf rate (getD ns i 0) ≡ t .limit =
+    ap (limitOf rate) limit ∙ limit-known rate (t .limit) (ap (λ (ks : List ℕ). getD ks 0 0) kinds) in
+    λ j. Present (record { limit = known j; delay = delay j })
+
+-- a line is taken for the kind that it is of
+tag-known : (kind : LineKind) → pick (same (tag kind) (tag GP2)) GP2 GP1 ≡ kind
+unfolding same
+tag-known GP1 = refl
+tag-known GP2 = refl
+
+pub kind-again : (p : Profile) → kindIn (lineOf p) ≡ lineKind p
+unfolding lineOf
+kind-again p = tag-known (lineKind p)
+
+-- no rule allows a number over the largest
+tops-allowed : (kind : LineKind) → topOf (rules kind) ≤ largest
+tops-allowed GP1 = lit≤ tt
+tops-allowed GP2 = lit≤ tt
+
+pub scanned-line : (p : Profile) → obeys (rules (lineKind p)) (fieldsOf p) ≡ true → scanned (lineOf p) ≡ p
 unfolding scanned lineOf fieldsOf
 scanned-line p e =
-    let kinds : map (λ (f : Field). f .kind) (fieldsOf p) ≡ map (λ (r : Rule). r .kind) rules = same-kinds rules (fieldsOf p) e in
+    let kind = lineKind p in
+    let kinds : map (λ (f : Field). f .kind) (fieldsOf p) ≡ map (λ (r : Rule). r .kind) (rules kind) =
+    same-kinds (rules kind) (fieldsOf p) e in
     let limit-at : (i kind : ℕ) (l : Limit) → kindOf l ≡ getD (map (λ (f : Field). f .kind) (fieldsOf p)) i 0
-    → kind ≡ getD (map (λ (r : Rule). r .kind) rules) i 0 → limitOf kind (sizeOf l) ≡ l =
+    → kind ≡ getD (map (λ (r : Rule). r .kind) (rules (lineKind p))) i 0 → limitOf kind (sizeOf l) ≡ l =
     λ i kind l a b. limit-known kind l (a ∙ ap (λ (ks : List ℕ). getD ks i 0) kinds ∙ sym b) in
-    ap (profileFrom (lineOf p)) (numbers-written rules (fieldsOf p) (lit≤ tt) e)
+    let rate-point = rate-known (p .«rate_of_change») (map (λ (f : Field). f .size) (fieldsOf p)) 11 (ap (drop 11) kinds) refl refl in
+    ap (λ (k : LineKind). profileFrom k (lineOf p) (numbersIn (rules k) (drop 8 (lineOf p)))) (kind-again p)
+    ∙ ap (profileFrom kind (lineOf p)) (numbers-written (rules kind) (fieldsOf p) (tops-allowed kind) e)
     ∙ (λ i.
     record {
       country = p .country;
@@ -226,6 +279,7 @@ scanned-line p e =
       «under_voltage» = record { limit = limit-at 5 share (p .«under_voltage» .limit) refl refl i; delay = p .«under_voltage» .delay };
       «over_frequency» = record { limit = limit-at 7 above (p .«over_frequency» .limit) refl refl i; delay = p .«over_frequency» .delay };
       «under_frequency» = record { limit = limit-at 9 below (p .«under_frequency» .limit) refl refl i; delay = p .«under_frequency» .delay };
+      «rate_of_change» = rate-point i;
     })
 
 -- ---- reading field by field, at places of the line
@@ -268,9 +322,6 @@ module _ (line : List ℕ) (at kind : ℕ) where
       }
 
 -- the same, with the bytes from that place on under another name
-abbrev tripIn : ℕ → List ℕ → Trip
-tripIn kind bytes = record { limit = limitOf kind (fieldNumber kind bytes); delay = fieldNumber plain (afterField kind bytes) }
-
 abbrev afterTrip : ℕ → List ℕ → List ℕ
 afterTrip kind bytes = afterField plain (afterField kind bytes)
 
@@ -289,11 +340,40 @@ module _ {line bytes : List ℕ} {at kind : ℕ} (here : drop at line ≡ bytes)
   trip-after : {r : TripRead} → TripAt line at kind r → drop (r .end) line ≡ afterTrip kind bytes
   trip-after t = t .after ∙ ap (afterTrip kind) here
 
+-- the rate point stands only in the kind of line that has one
+module _ (line : List ℕ) (at : ℕ) where
+  pub rate-found : {r : TripRead} → same (take 4 line) (tag GP2) ≡ true → TripAt line at rate r
+      → RateAt line at (Present (r .trip))
+  rate-found e t = rw e (ap Present (trip-is refl t))
+
+  pub rate-missing : same (take 4 line) (tag GP2) ≡ false → RateAt line at Absent
+  rate-missing e = rw e
+
+-- a line begins with the tag of its kind where it begins with that of either kind
+module _ (line : List ℕ) where
+  pub tag-rated : same (take 4 line) (tag GP2) ≡ true → true ≡ same (take 4 line) (tag (kindIn line))
+  tag-rated e = sym (ap (λ (b : Bool). same (take 4 line) (tag (pick b GP2 GP1))) e ∙ e)
+
+  pub tag-other : {r : Bool} → same (take 4 line) (tag GP2) ≡ false → r ≡ same (take 4 line) (tag GP1)
+      → r ≡ same (take 4 line) (tag (kindIn line))
+  tag-other e f = f ∙ sym (ap (λ (b : Bool). same (take 4 line) (tag (pick b GP2 GP1))) e)
+
+-- the numbers past those of the fields that every line has
+rate-scanned : (kind : LineKind) (bytes : List ℕ) (ns : List ℕ) (i : ℕ)
+    → getD ns i 0 ≡ getD (numbersIn (rateRules kind) bytes) 0 0
+    → getD ns (suc i) 0 ≡ getD (numbersIn (rateRules kind) bytes) 1 0
+    → rateIn kind bytes ≡ rateFrom kind ns i
+unfolding numbersIn
+rate-scanned GP1 bytes ns i limit delay = refl
+rate-scanned GP2 bytes ns i limit delay = λ j. Present (record { limit = limitOf rate (sym limit j); delay = sym delay j })
+
 -- a line that was read field by field was scanned
 module _ {line : List ℕ} {serial volts hertz : Number} {over-voltage under-voltage over-frequency under-frequency : TripRead}
+    {point : RatePoint}
     (at₁ : FieldAt line 8 plain serial) (at₂ : FieldAt line (serial .end) plain volts) (at₃ : FieldAt line (volts .end) plain hertz)
     (at₄ : TripAt line (hertz .end) share over-voltage) (at₅ : TripAt line (over-voltage .end) share under-voltage)
-    (at₆ : TripAt line (under-voltage .end) above over-frequency) (at₇ : TripAt line (over-frequency .end) below under-frequency) where
+    (at₆ : TripAt line (under-voltage .end) above over-frequency) (at₇ : TripAt line (over-frequency .end) below under-frequency)
+    (at₈ : RateAt line (under-frequency .end) point) where
   pub scanned-parts :
       _≡_ {A = Profile}
       (record {
@@ -306,6 +386,7 @@ module _ {line : List ℕ} {serial volts hertz : Number} {over-voltage under-vol
         «under_voltage» = under-voltage .trip;
         «over_frequency» = over-frequency .trip;
         «under_frequency» = under-frequency .trip;
+        «rate_of_change» = point;
       })
       (scanned line)
   unfolding scanned numbersIn
@@ -316,6 +397,10 @@ module _ {line : List ℕ} {serial volts hertz : Number} {over-voltage under-vol
       let after₄ = trip-after after₃ at₄ in
       let after₅ = trip-after after₄ at₅ in
       let after₆ = trip-after after₅ at₆ in
+      let after₇ = trip-after after₆ at₇ in
+      let kind = kindIn line in
+      let rate-point =
+      at₈ ∙ ap (rateIn kind) after₇ ∙ rate-scanned kind _ (numbersIn (rules kind) (drop 8 line)) 11 refl refl in
       λ i.
       record {
         country = record { first = getD line 4 0; second = getD line 5 0 };
@@ -327,4 +412,5 @@ module _ {line : List ℕ} {serial volts hertz : Number} {over-voltage under-vol
         «under_voltage» = trip-is after₄ at₅ i;
         «over_frequency» = trip-is after₅ at₆ i;
         «under_frequency» = trip-is after₆ at₇ i;
+        «rate_of_change» = rate-point i;
       }

@@ -14,7 +14,7 @@ use Rattle.decimal.specs.Decimal.{decimal, largest}
 use Rattle.decimal.proofs.Decimal.{length-mono}
 use Rattle.profile.specs.declared.Profile.{Profile}
 use Rattle.outcome.specs.Result.{done, answer}
-use Rattle.profile.specs.Rules.{Range, _to_, contains, inOneOf, share, above, below, number, Field, tripFields, fieldsOf, tripRules, Rule, rules, fits, obeys, Class, classIn, isClass, letters, valid}
+use Rattle.profile.specs.Rules.{Range, _to_, contains, inOneOf, share, above, below, number, Field, tripFields, rateFields, fieldsOf, lineKind, tripRules, rateRules, Rule, rules, fits, obeys, Class, classIn, isClass, letters, valid}
 
 abbrev pub lowest : Range → ℕ
 lowest (low to high) = low
@@ -98,31 +98,36 @@ obeys-append (r ∷ rs) ss (f ∷ fs) gs h =
     ap (λ (b : Bool). fits r f && b) (obeys-append rs ss fs gs (omega arith)) ∙ sym (and-assoc (fits r f) (obeys rs fs) (obeys ss gs))
 
 -- the trip points of a profile, each by itself
-pub trips-apart : (p : Profile) → obeys (drop 3 rules) (drop 3 (fieldsOf p))
+pub trips-apart : (p : Profile) → obeys (drop 3 (rules (lineKind p))) (drop 3 (fieldsOf p))
     ≡ (obeys (tripRules share (1001 to 1500)) (tripFields (p .«over_voltage»))
     && (obeys (tripRules share (1 to 999)) (tripFields (p .«under_voltage»))
     && (obeys (tripRules above (1 to 5000)) (tripFields (p .«over_frequency»))
-    && obeys (tripRules below (1 to 5000)) (tripFields (p .«under_frequency»)))))
+    && (obeys (tripRules below (1 to 5000)) (tripFields (p .«under_frequency»))
+    && obeys (rateRules (lineKind p)) (rateFields (p .«rate_of_change»))))))
 unfolding fieldsOf
 trips-apart p =
     let rules₁ : List Rule = tripRules share (1001 to 1500) in
     let rules₂ : List Rule = tripRules share (1 to 999) in
     let rules₃ : List Rule = tripRules above (1 to 5000) in
     let rules₄ : List Rule = tripRules below (1 to 5000) in
+    let rules₅ : List Rule = rateRules (lineKind p) in
     let fields₁ : List Field = tripFields (p .«over_voltage») in
     let fields₂ : List Field = tripFields (p .«under_voltage») in
     let fields₃ : List Field = tripFields (p .«over_frequency») in
     let fields₄ : List Field = tripFields (p .«under_frequency») in
-    obeys-append rules₁ (rules₂ ++ (rules₃ ++ rules₄)) fields₁ (fields₂ ++ (fields₃ ++ fields₄)) refl
+    let fields₅ : List Field = rateFields (p .«rate_of_change») in
+    obeys-append rules₁ (rules₂ ++ (rules₃ ++ (rules₄ ++ rules₅))) fields₁ (fields₂ ++ (fields₃ ++ (fields₄ ++ fields₅))) refl
     ∙ ap (λ (b : Bool). obeys rules₁ fields₁ && b)
-    (obeys-append rules₂ (rules₃ ++ rules₄) fields₂ (fields₃ ++ fields₄) refl
-    ∙ ap (λ (b : Bool). obeys rules₂ fields₂ && b) (obeys-append rules₃ rules₄ fields₃ fields₄ refl))
+    (obeys-append rules₂ (rules₃ ++ (rules₄ ++ rules₅)) fields₂ (fields₃ ++ (fields₄ ++ fields₅)) refl
+    ∙ ap (λ (b : Bool). obeys rules₂ fields₂ && b)
+    (obeys-append rules₃ (rules₄ ++ rules₅) fields₃ (fields₄ ++ fields₅) refl
+    ∙ ap (λ (b : Bool). obeys rules₃ fields₃ && b) (obeys-append rules₄ rules₅ fields₄ fields₅ refl)))
 
 -- country, ratings, trip points and class, each by itself
 pub valid-apart : (table : List Class) (p : Profile) → valid table p
     ≡ ((contains letters (p .country .first) && contains letters (p .country .second))
-    && (obeys (take 3 rules) (number (p .serial) ∷ number (p .volts) ∷ number (p .hertz) ∷ [])
-    && (obeys (drop 3 rules) (drop 3 (fieldsOf p)) && isClass (classIn table (p .volts)) (p .class))))
+    && (obeys (take 3 (rules (lineKind p))) (number (p .serial) ∷ number (p .volts) ∷ number (p .hertz) ∷ [])
+    && (obeys (drop 3 (rules (lineKind p))) (drop 3 (fieldsOf p)) && isClass (classIn table (p .volts)) (p .class))))
 unfolding fieldsOf valid
 valid-apart table p =
     let first = contains letters (p .country .first) in
@@ -130,9 +135,12 @@ valid-apart table p =
     let ratings : List Field = number (p .serial) ∷ number (p .volts) ∷ number (p .hertz) ∷ [] in
     let trips : List Field = drop 3 (fieldsOf p) in
     let agrees = isClass (classIn table (p .volts)) (p .class) in
-    let apart : (obeys rules (fieldsOf p) && agrees) ≡ (obeys (take 3 rules) ratings && (obeys (drop 3 rules) trips && agrees)) =
-    ap (λ (b : Bool). b && agrees) (obeys-append (take 3 rules) (drop 3 rules) ratings trips refl)
-    ∙ and-assoc (obeys (take 3 rules) ratings) (obeys (drop 3 rules) trips) agrees in
+    let first-rules : List Rule = take 3 (rules (lineKind p)) in
+    let trip-rules : List Rule = drop 3 (rules (lineKind p)) in
+    let apart : (obeys (rules (lineKind p)) (fieldsOf p) && agrees)
+    ≡ (obeys first-rules ratings && (obeys trip-rules trips && agrees)) =
+    ap (λ (b : Bool). b && agrees) (obeys-append first-rules trip-rules ratings trips refl)
+    ∙ and-assoc (obeys first-rules ratings) (obeys trip-rules trips) agrees in
     ap (λ (b : Bool). first && (second && b)) apart ∙ sym (and-assoc first second _)
 
 -- fields that obey their rules are of the rules' kinds
@@ -151,7 +159,7 @@ same-kinds (r ∷ rs) (f ∷ fs) e =
 pub record Valid (table : List Class) (p : Profile) : Type 0 where
   pub first : contains letters (p .country .first) ≡ true
   pub second : contains letters (p .country .second) ≡ true
-  pub fields : obeys rules (fieldsOf p) ≡ true
+  pub fields : obeys (rules (lineKind p)) (fieldsOf p) ≡ true
   pub agrees : isClass (classIn table (p .volts)) (p .class) ≡ true
 
 pub parts : (table : List Class) (p : Profile) → T (valid table p) → Valid table p
@@ -163,8 +171,8 @@ parts table p t =
     record {
       first = and-first (contains letters (p .country .first)) _ all;
       second = and-first (contains letters (p .country .second)) _ but-first;
-      fields = and-first (obeys rules (fieldsOf p)) _ but-country;
-      agrees = and-rest (obeys rules (fieldsOf p)) _ but-country;
+      fields = and-first (obeys (rules (lineKind p)) (fieldsOf p)) _ but-country;
+      agrees = and-rest (obeys (rules (lineKind p)) (fieldsOf p)) _ but-country;
     }
 
 -- ---- what a range says of the digits of its numbers

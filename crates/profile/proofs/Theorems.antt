@@ -7,22 +7,27 @@ use lib.Dec.{T}
 use lib.ListN.{length, take}
 use borrow.Author.Tests.{le-leb}
 use Rattle.decimal.specs.Decimal.{decimal, lastDigits}
-use Rattle.profile.specs.declared.Limit.the-variants.{Share, Offset}
+use Rattle.profile.specs.declared.Limit.the-variants.{Share, Offset, Rate}
 use Rattle.profile.specs.declared.Trip.{Trip}
+use Rattle.profile.specs.declared.RatePoint.{RatePoint}
+use Rattle.profile.specs.declared.RatePoint.the-variants.{Absent, Present}
 use Rattle.profile.specs.declared.Profile.{Profile}
 use Rattle.outcome.specs.Lists.{same}
 use Rattle.outcome.specs.Result.{done}
 use Rattle.outcome.proofs.Lists.{same-refl, same-equal}
-use Rattle.profile.specs.Rules.{_to_, contains, valid, obeys, fieldsOf}
-use Rattle.profile.specs.Line.{tag, shortest, longest, fieldBytes, written, lineOf, scanned, readChecks, readLine}
-use Rattle.profile.specs.Theorems.{ReadsWritten, WritesRead, OneLine, LineLengths, Reached}
+use Rattle.profile.specs.Rules.{_to_, contains, valid, obeys, fieldsOf, GP1, GP2, lineKind}
+use Rattle.profile.specs.Line.{tag, shortest, longest, fieldBytes, written, lineOf, kindIn, scanned, readChecks, readLine}
+use Rattle.profile.specs.Theorems.{ReadsWritten, WritesRead, OneLine, ReadsKind, FieldCounts, LineLengths, least, greatest, KindLengths, Reached}
 use Rattle.profile.proofs.RuleLaws.{test, parts, passed-done, done-passed}
-use Rattle.profile.proofs.LineLaws.{line-lengths, scanned-line}
+use Rattle.profile.proofs.LineLaws.{kind-lengths, line-lengths, kind-again, scanned-line}
 
 pub line-lengths-hold : LineLengths
 line-lengths-hold table p ok = line-lengths p (parts table p ok .fields)
 
-tag-first : (p : Profile) → take (length tag) (lineOf p) ≡ tag
+pub kind-lengths-hold : KindLengths
+kind-lengths-hold table p ok = kind-lengths p (parts table p ok .fields)
+
+tag-first : (p : Profile) → take 4 (lineOf p) ≡ tag (lineKind p)
 unfolding lineOf
 tag-first p = refl
 
@@ -34,7 +39,9 @@ reads-written table p ok =
     let bounds = line-lengths-hold table p ok in
     let sized : contains (shortest to longest) (length line) ≡ true =
     rw (le-leb shortest (length line) (bounds .0)) (le-leb (length line) longest (bounds .1)) in
-    let tagged : same (take (length tag) line) tag ≡ true = ap (λ (l : List ℕ). same l tag) (tag-first p) ∙ same-refl tag in
+    let begun : take 4 line ≡ tag (kindIn line) = tag-first p ∙ ap tag (sym (kind-again p)) in
+    let tagged : same (take 4 line) (tag (kindIn line)) ≡ true =
+    ap (λ (l : List ℕ). same l (tag (kindIn line))) begun ∙ same-refl (tag (kindIn line)) in
     let still-valid : T (valid table (scanned line)) = rw back ok in
     let respelled : same (lineOf (scanned line)) line ≡ true =
     ap (λ (q : Profile). same (lineOf q) line) back ∙ same-refl line in
@@ -52,11 +59,17 @@ writes-read table line p e =
 pub one-line : OneLine
 one-line table line line′ p e e′ = sym (writes-read table line p e .0) ∙ writes-read table line′ p e′ .0
 
--- ---- the shortest and the longest line
+pub reads-kind : ReadsKind
+reads-kind table line p e = ap (take 4) (sym (writes-read table line p e .0)) ∙ tag-first p
+
+pub field-counts : FieldCounts
+field-counts = (refl, refl)
+
+-- ---- the shortest and the longest line of each kind
 
 -- a profile of country AA whose trip points have these limits, all with one delay
-sample : ℕ → ℕ → ℕ → ℕ → ℕ → ℕ → Profile
-sample class serial volts under-voltage offset delay =
+sample : ℕ → ℕ → ℕ → ℕ → ℕ → ℕ → RatePoint → Profile
+sample class serial volts under-voltage offset delay point =
     let share : ℕ → Trip = λ n. record { limit = Share n; delay = delay } in
     let off : Bool → Trip = λ under. record { limit = Offset under offset; delay = delay } in
     record {
@@ -69,12 +82,30 @@ sample class serial volts under-voltage offset delay =
       «under_voltage» = share under-voltage;
       «over_frequency» = off false;
       «under_frequency» = off true;
+      «rate_of_change» = point;
     }
 
-pub shortest-reached : Reached shortest
-unfolding sample valid obeys fieldsOf lineOf written fieldBytes decimal lastDigits
-shortest-reached = (sample 65 1 100 1 1 20, tt, refl)
+small : RatePoint → Profile
+small point = sample 65 1 100 1 1 20 point
 
-pub longest-reached : Reached longest
-unfolding sample valid obeys fieldsOf lineOf written fieldBytes decimal lastDigits
-longest-reached = (sample 68 4294967295 1000 999 5000 60000, tt, refl)
+large : RatePoint → Profile
+large point = sample 68 4294967295 1000 999 5000 60000 point
+
+rated : ℕ → ℕ → RatePoint
+rated limit delay = Present (record { limit = Rate limit; delay = delay })
+
+pub shortest-reached : Reached GP1 (least GP1)
+unfolding small sample valid obeys fieldsOf lineOf written fieldBytes decimal lastDigits
+shortest-reached = (small Absent, tt, refl, refl)
+
+pub longest-plain-reached : Reached GP1 (greatest GP1)
+unfolding large sample valid obeys fieldsOf lineOf written fieldBytes decimal lastDigits
+longest-plain-reached = (large Absent, tt, refl, refl)
+
+pub shortest-rated-reached : Reached GP2 (least GP2)
+unfolding small sample rated valid obeys fieldsOf lineOf written fieldBytes decimal lastDigits
+shortest-rated-reached = (small (rated 100 20), tt, refl, refl)
+
+pub longest-reached : Reached GP2 (greatest GP2)
+unfolding large sample rated valid obeys fieldsOf lineOf written fieldBytes decimal lastDigits
+longest-reached = (large (rated 10000 60000), tt, refl, refl)

@@ -1,4 +1,5 @@
--- The line of a profile, and reading it back (document 01, "Profile line, package, shelf").
+-- The line of a profile, and reading it back (document 01, "Profile line, package, shelf"; document 02, M-101, for the second
+-- kind of line).
 -- `lineOf` says what a line is. `readLine` takes the numbers from where a line has them, and accepts them only where the line
 -- of what it found is the very line that it was given: nothing but the one spelling of a profile is read.
 -- Assumes nothing.
@@ -11,21 +12,27 @@ use Rattle.outcome.specs.Answer.{bad-size, bad-profile, Check, _unless_, pick}
 use Rattle.outcome.specs.Lists.{same}
 use Rattle.decimal.specs.Decimal.{decimal, leadingNumber, afterNumber}
 use Rattle.profile.specs.declared.Limit.{Limit}
-use Rattle.profile.specs.declared.Limit.the-variants.{Share, Offset}
+use Rattle.profile.specs.declared.Limit.the-variants.{Share, Offset, Rate}
 use Rattle.profile.specs.declared.Trip.{Trip}
+use Rattle.profile.specs.declared.RatePoint.{RatePoint}
+use Rattle.profile.specs.declared.RatePoint.the-variants.{Absent, Present}
 use Rattle.profile.specs.declared.Profile.{Profile}
 use Rattle.profile.specs.declared.ReadLine.{ReadLine}
 use Rattle.profile.specs.declared.ReadLine.the-variants as reading
 use Rattle.profile.specs.declared.WriteLine.{WriteLine}
 use Rattle.profile.specs.declared.WriteLine.the-variants as writing
 use Rattle.outcome.specs.Result.{Result, done, refused, answer, numberIn}
-use Rattle.profile.specs.Rules.{_to_, contains, share, above, below, Field, fieldsOf, Rule, rules, Class, valid}
+use Rattle.profile.specs.Rules.{_to_, contains, share, above, below, rate, Field, fieldsOf, LineKind, GP1, GP2, lineKind, Rule, rules, Class, valid}
 
 -- ---- the line of a profile
 
--- `GP1,`
-abbrev pub tag : List ℕ
-tag = 71 ∷ 80 ∷ 49 ∷ 44 ∷ []
+-- `GP1,` or `GP2,`
+abbrev pub digit : LineKind → ℕ
+digit GP1 = 49
+digit GP2 = 50
+
+abbrev pub tag : LineKind → List ℕ
+tag kind = 71 ∷ 80 ∷ digit kind ∷ 44 ∷ []
 
 abbrev pub comma : ℕ
 comma = 44
@@ -36,12 +43,12 @@ minus = 45
 abbrev pub lineFeed : ℕ
 lineFeed = 10
 
--- the lengths of lines
+-- the lengths of lines, of either kind
 abbrev pub shortest : ℕ
 shortest = 42
 
 abbrev pub longest : ℕ
-longest = 72
+longest = 84
 
 -- what stands before a field's digits: a comma, and a minus only where the number is negative
 abbrev pub lead : ℕ → List ℕ
@@ -57,7 +64,7 @@ written (f ∷ fs) = fieldBytes (f .kind) (f .size) ++ written fs
 
 -- tag, country, class
 abbrev pub headOf : Profile → List ℕ
-headOf p = tag ++ (p .country .first ∷ p .country .second ∷ comma ∷ p .class ∷ [])
+headOf p = tag (lineKind p) ++ (p .country .first ∷ p .country .second ∷ comma ∷ p .class ∷ [])
 
 -- then the fields, and LF
 unfoldable pub lineOf : Profile → List ℕ
@@ -79,15 +86,19 @@ numbersIn (r ∷ rs) bytes = fieldNumber (r .kind) bytes ∷ numbersIn rs (after
 
 -- the limit that a field of this kind means
 abbrev pub limitOf : ℕ → ℕ → Limit
-limitOf kind n = pick (eqb kind share) (Share n) (Offset (eqb kind below) n)
+limitOf kind n = pick (eqb kind share) (Share n) (pick (eqb kind rate) (Rate n) (Offset (eqb kind below) n))
 
 -- a trip point from two numbers, the first of them at place i
 abbrev pub tripFrom : ℕ → List ℕ → ℕ → Trip
 tripFrom kind ns i = record { limit = limitOf kind (getD ns i 0); delay = getD ns (suc i) 0 }
 
--- a profile from a line's country and class and from the numbers of its fields
-abbrev pub profileFrom : List ℕ → List ℕ → Profile
-profileFrom head ns =
+abbrev pub rateFrom : LineKind → List ℕ → ℕ → RatePoint
+rateFrom GP1 ns i = Absent
+rateFrom GP2 ns i = Present (tripFrom rate ns i)
+
+-- a profile from a line's kind, from its country and class and from the numbers of its fields
+abbrev pub profileFrom : LineKind → List ℕ → List ℕ → Profile
+profileFrom kind head ns =
     record {
       country = record { first = getD head 4 0; second = getD head 5 0 };
       class = getD head 7 0;
@@ -98,17 +109,22 @@ profileFrom head ns =
       «under_voltage» = tripFrom share ns 5;
       «over_frequency» = tripFrom above ns 7;
       «under_frequency» = tripFrom below ns 9;
+      «rate_of_change» = rateFrom kind ns 11;
     }
 
--- what stands at the places where a line has its fields; whether it is a line is not looked at
+-- the kind that a line is taken for
+abbrev pub kindIn : List ℕ → LineKind
+kindIn line = pick (same (take 4 line) (tag GP2)) GP2 GP1
+
+-- what stands at the places where a line of this kind has its fields; whether it is a line is not looked at
 unfoldable pub scanned : List ℕ → Profile
-scanned line = profileFrom line (numbersIn rules (drop 8 line))
+scanned line = profileFrom (kindIn line) line (numbersIn (rules (kindIn line)) (drop 8 line))
 
 -- the size; the tag; the rules, for what was found; and the line is the line of what was found
 abbrev pub readChecks : List Class → List ℕ → List Check
 readChecks table line =
     bad-size unless contains (shortest to longest) (length line)
-    ∷ bad-profile unless same (take (length tag) line) tag
+    ∷ bad-profile unless same (take 4 line) (tag (kindIn line))
     ∷ bad-profile unless valid table (scanned line)
     ∷ bad-profile unless same (lineOf (scanned line)) line
     ∷ []

@@ -1,4 +1,5 @@
--- When a profile is valid: the field rules and the class table, as data (document 01, "Profile line, package, shelf").
+-- When a profile is valid: the field rules and the class table, as data (document 01, "Profile line, package, shelf"; document
+-- 02, M-101, for the rate point).
 -- Assumes nothing.
 use mathlib.Core.Path.{_≡_}
 use mathlib.Core.Bool.{Bool, true, false, _&&_, _||_}
@@ -7,8 +8,10 @@ use Prim.Native.Nat.{ℕ}
 use lib.Dec.{leb, eqb}
 use Rattle.outcome.specs.Answer.{bad-profile, pick}
 use Rattle.profile.specs.declared.Limit.{Limit}
-use Rattle.profile.specs.declared.Limit.the-variants.{Share, Offset}
+use Rattle.profile.specs.declared.Limit.the-variants.{Share, Offset, Rate}
 use Rattle.profile.specs.declared.Trip.{Trip}
+use Rattle.profile.specs.declared.RatePoint.{RatePoint}
+use Rattle.profile.specs.declared.RatePoint.the-variants.{Absent, Present}
 use Rattle.profile.specs.declared.Profile.{Profile}
 use Rattle.profile.specs.declared.ClassFound.{ClassFound}
 use Rattle.profile.specs.declared.ClassFound.the-variants.{Letter, OutOfRange}
@@ -29,7 +32,8 @@ inOneOf (r ∷ rs) n = contains r n || inOneOf rs n
 
 -- ---- the fields after the class, in the order of the line
 
--- what a field's number is: a share of the nominal voltage, an offset above or below the nominal frequency, or plain
+-- what a field's number is: a share of the nominal voltage, an offset above or below the nominal frequency, plain, or a rate of
+-- change of frequency
 abbrev pub share : ℕ
 share = 0
 
@@ -42,6 +46,9 @@ below = 2
 abbrev pub plain : ℕ
 plain = 3
 
+abbrev pub rate : ℕ
+rate = 4
+
 -- a field of a profile: its kind, and its number without a sign
 pub record Field : Type 0 where
   pub kind : ℕ
@@ -50,10 +57,12 @@ pub record Field : Type 0 where
 abbrev pub kindOf : Limit → ℕ
 kindOf (Share n) = share
 kindOf (Offset under n) = pick under below above
+kindOf (Rate n) = rate
 
 abbrev pub sizeOf : Limit → ℕ
 sizeOf (Share n) = n
 sizeOf (Offset under n) = n
+sizeOf (Rate n) = n
 
 abbrev pub number : ℕ → Field
 number n = record { kind = plain; size = n }
@@ -61,6 +70,11 @@ number n = record { kind = plain; size = n }
 -- a trip point is two fields, its limit and its delay
 abbrev pub tripFields : Trip → List Field
 tripFields t = record { kind = kindOf (t .limit); size = sizeOf (t .limit) } ∷ number (t .delay) ∷ []
+
+-- the rate point has them only where it is present
+abbrev pub rateFields : RatePoint → List Field
+rateFields Absent = []
+rateFields (Present t) = tripFields t
 
 unfoldable pub fieldsOf : Profile → List Field
 fieldsOf p =
@@ -70,9 +84,23 @@ fieldsOf p =
     ∷ (tripFields (p .«over_voltage»)
     ++ (tripFields (p .«under_voltage»)
     ++ (tripFields (p .«over_frequency»)
-    ++ tripFields (p .«under_frequency»))))
+    ++ (tripFields (p .«under_frequency»)
+    ++ rateFields (p .«rate_of_change»)))))
 
 -- ---- the rules
+
+-- the kinds of line: without and with a rate point
+pub data LineKind : Type 0 where
+  GP1 : LineKind
+  GP2 : LineKind
+
+abbrev pub kindFor : RatePoint → LineKind
+kindFor Absent = GP1
+kindFor (Present t) = GP2
+
+-- the kind of a profile's line
+abbrev pub lineKind : Profile → LineKind
+lineKind p = kindFor (p .«rate_of_change»)
 
 -- a field's kind, and the ranges of its number; an offset below nominal is given by its size, 1 to 5000 for −5000 to −1
 pub record Rule : Type 0 where
@@ -89,16 +117,22 @@ delays = 20 to 60000
 abbrev pub tripRules : ℕ → Range → List Rule
 tripRules kind limits = one kind limits ∷ one plain delays ∷ []
 
--- serial, nominal volts, hertz; then over-voltage, under-voltage, over-frequency and under-frequency, each with its delay
-abbrev pub rules : List Rule
-rules =
+abbrev pub rateRules : LineKind → List Rule
+rateRules GP1 = []
+rateRules GP2 = tripRules rate (100 to 10000)
+
+-- serial, nominal volts, hertz; then over-voltage, under-voltage, over-frequency and under-frequency, each with its delay; and
+-- the rate of change of frequency with its delay, in the kind of line that has it
+abbrev pub rules : LineKind → List Rule
+rules kind =
     one plain (1 to 4294967295)
     ∷ one plain (100 to 1000)
     ∷ record { kind = plain; ranges = 50 to 50 ∷ 60 to 60 ∷ [] }
     ∷ (tripRules share (1001 to 1500)
     ++ (tripRules share (1 to 999)
     ++ (tripRules above (1 to 5000)
-    ++ tripRules below (1 to 5000))))
+    ++ (tripRules below (1 to 5000)
+    ++ rateRules kind))))
 
 abbrev pub fits : Rule → Field → Bool
 fits r f = eqb (f .kind) (r .kind) && inOneOf (r .ranges) (f .size)
@@ -148,10 +182,10 @@ isClass (refused r) letter = false
 abbrev pub letters : Range
 letters = 65 to 90
 
--- two letters, fields that obey the rules, and the class of the volts
+-- two letters, fields that obey the rules of its kind of line, and the class of the volts
 unfoldable pub valid : List Class → Profile → Bool
 valid table p =
     contains letters (p .country .first)
     && (contains letters (p .country .second)
-    && (obeys rules (fieldsOf p)
+    && (obeys (rules (lineKind p)) (fieldsOf p)
     && isClass (classIn table (p .volts)) (p .class)))

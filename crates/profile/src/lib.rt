@@ -5,6 +5,7 @@ mod write;
 
 use buffers::equal;
 use rules::valid;
+use scan::is_tagged;
 use scan::scan;
 use write::append_line;
 ghost use Rattle.profile.specs.Rules.{classes, Classifies};
@@ -13,18 +14,26 @@ ghost use Rattle.profile.specs.Line.{Reads, Writes};
 // The lengths of lines. A line is written into as many bytes as the longest has.
 pub const SHORTEST: usize = 42;
 
-pub const LONGEST: usize = 72;
+pub const LONGEST: usize = 84;
 
-// Where a trip point trips: a voltage in thousandths of nominal, or millihertz above or below the nominal frequency.
+// Where a trip point trips: a voltage in thousandths of nominal, millihertz above or below the nominal frequency, or a rate of
+// change of frequency in millihertz per second.
 pub enum Limit {
     Share(u32),
     Offset { below: bool, millihertz: u32 },
+    Rate(u32),
 }
 
 // A limit, and the delay in milliseconds after which passing it trips.
 pub struct Trip {
     pub limit: Limit,
     pub delay: u32,
+}
+
+// The trip point that not every profile has.
+pub enum RatePoint {
+    Absent,
+    Present(Trip),
 }
 
 // The two letters of a country.
@@ -44,6 +53,7 @@ pub struct Profile {
     pub under_voltage: Trip,
     pub over_frequency: Trip,
     pub under_frequency: Trip,
+    pub rate_of_change: RatePoint,
 }
 
 // The class letter of nominal volts, where they have one.
@@ -52,14 +62,14 @@ pub enum ClassFound {
     OutOfRange,
 }
 
-// A line is read as a profile; or it is not 42 to 72 bytes long; or it breaks a rule.
+// A line is read as a profile; or it is not 42 to 84 bytes long; or it breaks a rule.
 pub enum ReadLine {
     Read(Profile),
     BadSize,
     BadLine,
 }
 
-// A line is written, and is this long; or the buffer is not 72 bytes long; or the profile breaks a rule.
+// A line is written, and is this long; or the buffer is not 84 bytes long; or the profile breaks a rule.
 pub enum WriteLine {
     Written(usize),
     BadSize,
@@ -89,7 +99,7 @@ pub fn read_line(line: &[u8]) -> ReadLine
     if line.len() > LONGEST {
         return ReadLine::BadSize;
     }
-    if !equal(&line[..4], b"GP1,") {
+    if !is_tagged(line) {
         return ReadLine::BadLine;
     }
     let p = scan(line);
@@ -104,7 +114,7 @@ pub fn read_line(line: &[u8]) -> ReadLine
     ReadLine::BadLine
 }
 
-// Writes the line of a profile at the front of 72 lent bytes.
+// Writes the line of a profile at the front of 84 lent bytes.
 pub fn write_line(p: Profile, out: &mut [u8]) -> WriteLine
     ensures { λ r. ⌜ Writes classes p (now (out .entry)) r (now (out .exit)) ⌝ }
 {

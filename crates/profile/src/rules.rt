@@ -3,14 +3,16 @@ use super::ClassFound;
 use super::Country;
 use super::Limit;
 use super::Profile;
+use super::RatePoint;
 use super::Trip;
 use super::class_of;
 ghost use mathlib.Core.Path.{_≡_};
 ghost use mathlib.Core.Bool.{_&&_};
 ghost use mathlib.Core.List.{[], _∷_};
 ghost use lib.ListN.{take, drop};
-ghost use Rattle.profile.specs.Rules.{_to_, contains, kindOf, sizeOf, number, tripFields, fieldsOf, tripRules};
-ghost use Rattle.profile.specs.Rules.{rules, obeys, classes, classIn, isClass, letters};
+ghost use Rattle.profile.specs.Rules.{_to_, contains, kindOf, sizeOf, number, tripFields, rateFields, fieldsOf};
+ghost use Rattle.profile.specs.Rules.{GP1, kindFor, lineKind, tripRules, rateRules, rules, obeys};
+ghost use Rattle.profile.specs.Rules.{classes, classIn, isClass, letters};
 ghost use Rattle.profile.specs.Rules.{valid as validUnder};
 
 // What the number of a field is.
@@ -22,6 +24,8 @@ pub const BELOW: u8 = 2;
 
 pub const PLAIN: u8 = 3;
 
+pub const RATE: u8 = 4;
+
 pub fn kind_of(limit: Limit) -> u8
     ensures { λ r. ⌜ r ≡ kindOf limit ⌝ }
 {
@@ -31,6 +35,7 @@ pub fn kind_of(limit: Limit) -> u8
             below,
             millihertz: _,
         } => { if below { BELOW } else { ABOVE } }
+        Limit::Rate(_) => RATE,
     }
 }
 
@@ -43,6 +48,7 @@ pub fn size_of(limit: Limit) -> u32
             below: _,
             millihertz,
         } => millihertz,
+        Limit::Rate(millihertz_per_second) => millihertz_per_second,
     }
 }
 
@@ -70,7 +76,7 @@ fn country_obeys(c: Country) -> bool
 
 // Serial, nominal volts and hertz.
 fn ratings_obey(serial: u32, volts: u32, hertz: u32) -> bool
-    ensures { λ r. ⌜ r ≡ obeys (take 3 rules) (number serial ∷ number volts ∷ number hertz ∷ []) ⌝ }
+    ensures { λ r. ⌜ r ≡ obeys (take 3 (rules GP1)) (number serial ∷ number volts ∷ number hertz ∷ []) ⌝ }
 {
     if !within(serial, 1, 4294967295) {
         return false;
@@ -95,9 +101,19 @@ fn trip_obeys(t: Trip, kind: u8, low: u32, high: u32) -> bool
     within(t.delay, 20, 60000)
 }
 
-// The four trip points.
+// The rate point: where there is none, nothing can be broken.
+fn rate_obeys(point: RatePoint) -> bool
+    ensures { λ r. ⌜ r ≡ obeys (rateRules (kindFor point)) (rateFields point) ⌝ }
+{
+    match point {
+        RatePoint::Absent => true,
+        RatePoint::Present(t) => trip_obeys(t, RATE, 100, 10000),
+    }
+}
+
+// The trip points.
 fn trips_obey(p: Profile) -> bool
-    ensures { λ r. ⌜ r ≡ obeys (drop 3 rules) (drop 3 (fieldsOf p)) ⌝ }
+    ensures { λ r. ⌜ r ≡ obeys (drop 3 (rules (lineKind p))) (drop 3 (fieldsOf p)) ⌝ }
 {
     let over_voltage = p.over_voltage;
     if !trip_obeys(over_voltage, SHARE, 1001, 1500) {
@@ -112,7 +128,11 @@ fn trips_obey(p: Profile) -> bool
         return false;
     }
     let under_frequency = p.under_frequency;
-    trip_obeys(under_frequency, BELOW, 1, 5000)
+    if !trip_obeys(under_frequency, BELOW, 1, 5000) {
+        return false;
+    }
+    let rate_of_change = p.rate_of_change;
+    rate_obeys(rate_of_change)
 }
 
 // Whether a class is that of the volts.

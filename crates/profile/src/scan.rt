@@ -2,18 +2,23 @@
 use super::Country;
 use super::Limit;
 use super::Profile;
+use super::RatePoint;
 use super::Trip;
 use super::rules::ABOVE;
 use super::rules::BELOW;
 use super::rules::PLAIN;
+use super::rules::RATE;
 use super::rules::SHARE;
+use buffers::equal;
 use decimal::Number;
 use decimal::read_decimal;
 ghost use mathlib.Core.Path.{_≡_};
 ghost use Prim.Native.Nat.{_≤_};
-ghost use lib.ListN.{length};
-ghost use Rattle.profile.specs.Line.{lead, limitOf, scanned};
-ghost use Rattle.profile.specs.InnerPlaces.{FieldAt, TripAt};
+ghost use lib.ListN.{length, take};
+ghost use Rattle.outcome.specs.Lists.{same};
+ghost use Rattle.profile.specs.Rules.{GP2};
+ghost use Rattle.profile.specs.Line.{tag, lead, limitOf, kindIn, scanned};
+ghost use Rattle.profile.specs.InnerPlaces.{FieldAt, TripAt, RateAt};
 
 // A trip point that was read, and the place after it.
 pub struct TripRead {
@@ -53,6 +58,9 @@ fn limit_of(kind: u8, size: u32) -> Limit
     if kind == SHARE {
         return Limit::Share(size);
     }
+    if kind == RATE {
+        return Limit::Rate(size);
+    }
     Limit::Offset {
         below: kind == BELOW,
         millihertz: size,
@@ -76,6 +84,39 @@ fn trip_at(line: &[u8], at: usize, kind: u8) -> TripRead
     }
 }
 
+// Whether a line begins as one with a rate point does.
+fn is_rated(line: &[u8]) -> bool
+    requires { ⌜ 8 ≤ length (now line) ⌝ }
+    ensures { λ r. ⌜ r ≡ same (take 4 (now (line .entry))) (tag GP2) ⌝ }
+{
+    equal(&line[..4], b"GP2,")
+}
+
+// Whether a line begins with the tag of either kind.
+pub fn is_tagged(line: &[u8]) -> bool
+    requires { ⌜ 8 ≤ length (now line) ⌝ }
+    ensures { λ r. ⌜ r ≡ same (take 4 (now (line .entry))) (tag (kindIn (now (line .entry)))) ⌝ }
+{
+    if is_rated(line) {
+        return true;
+    }
+    equal(&line[..4], b"GP1,")
+}
+
+// The rate point whose first comma stands at place `at`, where the line is of the kind that has one.
+fn rate_at(line: &[u8], at: usize) -> RatePoint
+    requires { ⌜ 8 ≤ length (now line) ⌝ }
+    requires { ⌜ at ≤ length (now line) ⌝ }
+    ensures { λ r. ⌜ RateAt (now (line .entry)) at r ⌝ }
+{
+    if !is_rated(line) {
+        return RatePoint::Absent;
+    }
+    let read = trip_at(line, at, RATE);
+    let trip = read.trip;
+    RatePoint::Present(trip)
+}
+
 // What stands where a line has its fields; nothing is checked.
 pub fn scan(line: &[u8]) -> Profile
     requires { ⌜ 8 ≤ length (now line) ⌝ }
@@ -92,6 +133,7 @@ pub fn scan(line: &[u8]) -> Profile
     let under_voltage_trip = under_voltage.trip;
     let over_frequency_trip = over_frequency.trip;
     let under_frequency_trip = under_frequency.trip;
+    let rate_of_change = rate_at(line, under_frequency.end);
     Profile {
         country: Country {
             first: line[4],
@@ -105,5 +147,6 @@ pub fn scan(line: &[u8]) -> Profile
         under_voltage: under_voltage_trip,
         over_frequency: over_frequency_trip,
         under_frequency: under_frequency_trip,
+        rate_of_change: rate_of_change,
     }
 }

@@ -1,5 +1,6 @@
 // Writing a line, each part after the one before it.
 use super::Profile;
+use super::RatePoint;
 use super::Trip;
 use super::rules::BELOW;
 use super::rules::PLAIN;
@@ -8,8 +9,8 @@ use super::rules::size_of;
 use decimal::write_decimal;
 ghost use lib.ListN.{take, drop};
 ghost use Rattle.decimal.specs.Decimal.{Room, Appended};
-ghost use Rattle.profile.specs.Rules.{tripFields, fieldsOf};
-ghost use Rattle.profile.specs.Line.{fieldBytes, written, headOf, lineOf};
+ghost use Rattle.profile.specs.Rules.{tripFields, rateFields, fieldsOf, kindFor};
+ghost use Rattle.profile.specs.Line.{tag, fieldBytes, written, headOf, lineOf};
 
 // Stores bytes from place `at`, and returns the place after them.
 fn append_bytes(bytes: &[u8], out: &mut [u8], at: usize) -> usize
@@ -24,13 +25,25 @@ fn append_bytes(bytes: &[u8], out: &mut [u8], at: usize) -> usize
     at + i
 }
 
+// The tag of the kind of line that has a rate point, where there is one.
+fn append_tag(point: RatePoint, out: &mut [u8]) -> usize
+    requires { ⌜ Room (now out) 0 (tag (kindFor point)) ⌝ }
+    ensures { λ r. ⌜ Appended (now (out .entry)) 0 (tag (kindFor point)) (now (out .exit)) r ⌝ }
+{
+    match point {
+        RatePoint::Absent => append_bytes(b"GP1,", out, 0),
+        RatePoint::Present(_) => append_bytes(b"GP2,", out, 0),
+    }
+}
+
 // Tag, country and class.
 fn append_head(p: Profile, out: &mut [u8]) -> usize
     requires { ⌜ Room (now out) 0 (headOf p) ⌝ }
     ensures { λ r. ⌜ Appended (now (out .entry)) 0 (headOf p) (now (out .exit)) r ⌝ }
 {
     let country = p.country;
-    append_bytes(b"GP1,", out, 0);
+    let rate_of_change = p.rate_of_change;
+    append_tag(rate_of_change, out);
     out[4] = country.first;
     out[5] = country.second;
     out[6] = b',';
@@ -71,7 +84,18 @@ fn append_ratings(p: Profile, out: &mut [u8], at: usize) -> usize
     append_field(PLAIN, p.hertz, out, volts)
 }
 
-// The four trip points.
+// The rate point, where there is one.
+fn append_rate(point: RatePoint, out: &mut [u8], at: usize) -> usize
+    requires { ⌜ Room (now out) at (written (rateFields point)) ⌝ }
+    ensures { λ r. ⌜ Appended (now (out .entry)) at (written (rateFields point)) (now (out .exit)) r ⌝ }
+{
+    match point {
+        RatePoint::Absent => at,
+        RatePoint::Present(t) => append_trip(t, out, at),
+    }
+}
+
+// The trip points.
 fn append_trips(p: Profile, out: &mut [u8], at: usize) -> usize
     requires { ⌜ Room (now out) at (written (drop 3 (fieldsOf p))) ⌝ }
     ensures { λ r. ⌜ Appended (now (out .entry)) at (written (drop 3 (fieldsOf p))) (now (out .exit)) r ⌝ }
@@ -83,7 +107,9 @@ fn append_trips(p: Profile, out: &mut [u8], at: usize) -> usize
     let over_frequency = p.over_frequency;
     let fourth = append_trip(over_frequency, out, third);
     let under_frequency = p.under_frequency;
-    append_trip(under_frequency, out, fourth)
+    let fifth = append_trip(under_frequency, out, fourth);
+    let rate_of_change = p.rate_of_change;
+    append_rate(rate_of_change, out, fifth)
 }
 
 // The line of a profile, where it has room.

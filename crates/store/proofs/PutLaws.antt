@@ -10,7 +10,7 @@ use borrow.Author.Tests.{eq-eqb, ne-eqb, lt-ltb, le-ltb}
 use Rattle.outcome.specs.Answer.{store-full, not-stored, _unless_, firstRefusal, pick}
 use Rattle.outcome.specs.Result.{done, refused}
 use Rattle.profile.specs.declared.Profile.{Profile}
-use Rattle.image.specs.Image.{profileOf}
+use Rattle.image.specs.Image.{profileOf, hasImage}
 use Rattle.store.specs.declared.Key.{Key}
 use Rattle.store.specs.declared.Device.{Device}
 use Rattle.store.specs.Keys.{keyOf, deviceKey, sameKey}
@@ -106,11 +106,15 @@ pub put-same : (d : Device) (p : Profile) (ps qs : List Profile) → find (keyOf
 unfolding putNumber
 put-same d p ps qs e l = rw (e, l)
 
--- over an image of the right size the number is that of its profiles
-pub put-sized : (d : Device) (p : Profile) (old : List ℕ) → length old ≡ storeSize
+-- over an image of the right size, of a profile that has an image, the number is that of the stored profiles
+pub put-sized : (d : Device) (p : Profile) (old : List ℕ) → length old ≡ storeSize → hasImage p ≡ true
     → firstRefusal (putImageChecks d p old) ≡ putNumber d p (stored old)
 unfolding putNumber
-put-sized d p old size = rw (eq-eqb (length old) storeSize size)
+put-sized d p old size kinds = rw (eq-eqb (length old) storeSize size, kinds)
+
+not-kinded : (d : Device) (p : Profile) (old : List ℕ) → length old ≡ storeSize → hasImage p ≡ false
+    → firstRefusal (putImageChecks d p old) ≡ 5
+not-kinded d p old size none = rw (eq-eqb (length old) storeSize size, none)
 
 -- ---- the slot that is chosen
 
@@ -142,29 +146,39 @@ answers-size {old = old} other =
       kept = λ z. refl;
     }
 
+-- and then a profile that has no image
+pub answers-kinds : {d : Device} {p : Profile} {old : List ℕ} → length old ≡ storeSize → hasImage p ≡ false
+    → Puts d p old 5 old
+answers-kinds {d} {p} {old} size none =
+    record {
+      answer = sym (not-kinded d p old size none);
+      taken = λ z. absurd (omega arith);
+      kept = λ z. refl;
+    }
+
 -- an answer that refuses and leaves the store, and one that stores
-module _ {d : Device} {p : Profile} {old : List ℕ} (size : length old ≡ storeSize) where
+module _ {d : Device} {p : Profile} {old : List ℕ} (size : length old ≡ storeSize) (kinds : hasImage p ≡ true) where
   pub refuses : (n : ℕ) → putNumber d p (stored old) ≡ suc n → Puts d p old (suc n) old
   refuses n e =
-      record { answer = sym (put-sized d p old size ∙ e); taken = λ z. absurd (omega arith); kept = λ z. refl }
+      record { answer = sym (put-sized d p old size kinds ∙ e); taken = λ z. absurd (omega arith); kept = λ z. refl }
 
   pub takes : {new : List ℕ} → putNumber d p (stored old) ≡ 0 → Taken p old new → Puts d p old 0 new
   takes e new =
-      record { answer = sym (put-sized d p old size ∙ e); taken = λ z. new; kept = λ z. absurd (z refl) }
+      record { answer = sym (put-sized d p old size kinds ∙ e); taken = λ z. new; kept = λ z. absurd (z refl) }
 
 -- after its search
-module _ {d : Device} {p : Profile} {old : List ℕ} {i : ℕ} (size : length old ≡ storeSize)
+module _ {d : Device} {p : Profile} {old : List ℕ} {i : ℕ} (size : length old ≡ storeSize) (kinds : hasImage p ≡ true)
     (its : sameKey (keyOf p) (deviceKey d) ≡ true)
     (first : i ≡ firstSlot (holding (keyOf p)) (slotsOf capacity old)) where
   pub answers-old : i < capacity → p .serial ≤ profileOf (slotBytes i old) .serial → Puts d p old 7 old
-  answers-old h serial = refuses size 6 (put-old d p (stored old) its _ (held (keyOf p) old i first h) serial)
+  answers-old h serial = refuses size kinds 6 (put-old d p (stored old) its _ (held (keyOf p) old i first h) serial)
 
   pub answers-replaced : {new : List ℕ} → i < capacity → profileOf (slotBytes i old) .serial < p .serial
       → SlotWritten i p old new → Puts d p old 0 new
   answers-replaced {new} h serial w =
       let count = slots-length capacity old in
       let stores = stores-replaced p (slotsOf capacity old) (slotsOf capacity new) i first (omega arith) (w .slots) in
-      takes size (put-newer d p (stored old) its _ (held (keyOf p) old i first h) serial)
+      takes size kinds (put-newer d p (stored old) its _ (held (keyOf p) old i first h) serial)
       (record { slot = i; chosen = chosen-held (keyOf p) old i first h; written = w; stores = stores })
 
   module _ (none : capacity ≤ i) (j : ℕ) (free : j ≡ firstSlot isFree (slotsOf capacity old)) where
@@ -172,7 +186,7 @@ module _ {d : Device} {p : Profile} {old : List ℕ} {i : ℕ} (size : length ol
     answers-full h =
         let count = slots-length capacity old in
         let all = no-room (slotsOf capacity old) (omega arith) in
-        refuses size 7 (put-full d p (stored old) its (held-none (keyOf p) old i first none) (omega arith))
+        refuses size kinds 7 (put-full d p (stored old) its (held-none (keyOf p) old i first none) (omega arith))
 
     pub answers-added : {new : List ℕ} → j < capacity → SlotWritten j p old new → Puts d p old 0 new
     answers-added {new} h w =
@@ -181,5 +195,5 @@ module _ {d : Device} {p : Profile} {old : List ℕ} {i : ℕ} (size : length ol
         let new-key = held-nowhere (keyOf p) old i first none in
         let stores =
         stores-added p (slotsOf capacity old) (slotsOf capacity new) j free (omega arith) new-key (w .slots) in
-        takes size (put-room d p (stored old) its (held-none (keyOf p) old i first none) (omega arith))
+        takes size kinds (put-room d p (stored old) its (held-none (keyOf p) old i first none) (omega arith))
         (record { slot = j; chosen = chosen-free (keyOf p) old i first none j free h; written = w; stores = stores })

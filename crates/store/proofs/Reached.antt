@@ -64,15 +64,17 @@ use Rattle.store.proofs.StoredLaws.{
   distinct-insert,
 }
 use Rattle.store.proofs.LookupLaws.{lookup-find}
+use Rattle.image.specs.Image.{hasImage}
+use Rattle.image.proofs.Theorems.{valid-fits}
 use Rattle.store.proofs.PutLaws.{put-passed, put-sized, stores-length, put-same}
 
 -- ---- one call
 
 -- what `put` ensures is a step
 pub puts-step : (d : Device) (p : Profile) (old : List ℕ) (r : ℕ) (new : List ℕ) → length old ≡ storeSize
-    → Puts d p old r new → Step (record { device = d; profile = p }) (stored old) (stored new)
-puts-step d p old r new size puts =
-    let answered = puts .answer ∙ put-sized d p old size in
+    → hasImage p ≡ true → Puts d p old r new → Step (record { device = d; profile = p }) (stored old) (stored new)
+puts-step d p old r new size kinds puts =
+    let answered = puts .answer ∙ put-sized d p old size kinds in
     record {
       taken = λ e. puts .taken (answered ∙ e) .stores;
       kept = λ ne. ap stored (puts .kept (λ e. ne (sym answered ∙ e)));
@@ -87,7 +89,7 @@ put-changes d p old r new puts zero same =
     subst (λ (image : List ℕ). find (keyOf p) (stored image) ≡ done p) same after in
     let tests = passed (putImageChecks d p old) (sym (puts .answer) ∙ zero) in
     let greater : T (ltb (p .serial) (p .serial)) =
-    subst (λ (q : Result Profile). T (newer p q)) before (tests .1 .1 .0) in
+    subst (λ (q : Result Profile). T (newer p q)) before (tests .1 .1 .1 .0) in
     let less = ltb→lt (p .serial) (p .serial) greater in
     omega arith
 
@@ -317,4 +319,4 @@ run-then table (c ∷ cs) ds ps qs rs a b = (a .0, a .1, a .2, run-then table cs
 pub reached-put : PutReaches
 reached-put table calls d p old r new run ok set size puts =
     run-then table calls (record { device = d; profile = p } ∷ []) [] (stored old) (stored new) run
-    (stored new, record { profile = ok; device = set }, puts-step d p old r new size puts, refl)
+    (stored new, record { profile = ok; device = set }, puts-step d p old r new size (valid-fits table p ok .kinds) puts, refl)

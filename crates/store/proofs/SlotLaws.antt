@@ -10,6 +10,7 @@ use lib.Seq.{drop-cons}
 use Rattle.outcome.specs.Answer.{pick}
 use Rattle.profile.specs.declared.Limit.the-variants.{Share}
 use Rattle.profile.specs.declared.Trip.{Trip}
+use Rattle.profile.specs.declared.RatePoint.the-variants.{Absent}
 use Rattle.profile.specs.declared.Profile.{Profile}
 use Rattle.outcome.specs.Result.{done}
 use Rattle.store.specs.declared.Key.{Key}
@@ -48,6 +49,7 @@ unset =
             «under_voltage» = trip;
             «over_frequency» = trip;
             «under_frequency» = trip;
+            «rate_of_change» = Absent;
           };
     }
 

@@ -25,6 +25,7 @@ use Rattle.outcome.specs.Result.{Result, done, refused}
 use Rattle.profile.specs.declared.Profile.{Profile}
 use Rattle.profile.specs.Rules.{Class, valid}
 use Rattle.profile.specs.Line.{longest, lineOf}
+use Rattle.image.specs.Image.{hasImage}
 use Rattle.store.specs.declared.Key.{Key}
 use Rattle.store.specs.declared.Device.{Device}
 use Rattle.store.specs.Keys.{keyOf, deviceKey, sameKey, deviceOf, deviceOk}
@@ -106,9 +107,12 @@ putChecks d p ps =
 unfoldable pub putNumber : Device → Profile → List Profile → ℕ
 putNumber d p ps = firstRefusal (putChecks d p ps)
 
--- the image's size, and then these
+-- the image's size; whether an image can mean the profile, as it can every valid one; and then these
 abbrev pub putImageChecks : Device → Profile → List ℕ → List Check
-putImageChecks d p old = bad-size unless eqb (length old) storeSize ∷ putChecks d p (stored old)
+putImageChecks d p old =
+    bad-size unless eqb (length old) storeSize
+    ∷ bad-profile unless hasImage p
+    ∷ putChecks d p (stored old)
 
 -- two lists hold the same, each as often, in any order
 abbrev pub Perm : List Profile → List Profile → Type 0

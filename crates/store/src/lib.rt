@@ -3,8 +3,10 @@
 pub mod slots;
 
 use image::PROFILE_SIZE;
+use image::write::has_image;
 use image::write_profile_line;
 use outcome::BAD_DEVICE;
+use outcome::BAD_PROFILE;
 use outcome::BAD_SIZE;
 use outcome::NOT_STORED;
 use outcome::OLD_SERIAL;
@@ -175,12 +177,15 @@ pub fn lookup(store: &[u8], country: &[u8], class: u32, out: &mut [u8], length: 
 }
 
 // Stores a profile of the device's own country and class, in place of an older one of these or in a free slot.
-// Callers ask for the profile's rules and `device_ok` first.
+// Callers ask for the profile's rules and `device_ok` first; here it is enough that an image can mean the profile.
 pub fn put(store: &mut [u8], profile: Profile, device: Device) -> u8
     ensures { λ r. ⌜ Puts device profile (now (store .entry)) r (now (store .exit)) ⌝ }
 {
     if store.len() != STORE_SIZE {
         return BAD_SIZE;
+    }
+    if !has_image(profile) {
+        return BAD_PROFILE;
     }
     if !is_for(profile, device) {
         return OTHER_DEVICE;

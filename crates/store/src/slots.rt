@@ -7,9 +7,10 @@ use image::read::read_profile;
 use image::write::write_profile;
 use profile::Profile;
 ghost use mathlib.Core.Path.{_≡_};
+ghost use mathlib.Core.Bool.{true};
 ghost use Prim.Native.Nat.{_<_};
 ghost use lib.ListN.{length};
-ghost use Rattle.image.specs.Image.{profileSize, profileOf};
+ghost use Rattle.image.specs.Image.{profileSize, profileOf, hasImage};
 ghost use Rattle.store.specs.Stored.{capacity, storeSize, slotOf, slotsOf, slotBytes, SlotWritten};
 ghost use Rattle.store.specs.Stored.{isFree, holding, firstSlot};
 
@@ -82,6 +83,7 @@ pub fn profile_at(store: &[u8], i: usize) -> Profile
 pub fn write_slot(store: &mut [u8], i: usize, profile: Profile)
     requires { ⌜ length (now store) ≡ storeSize ⌝ }
     requires { ⌜ i < capacity ⌝ }
+    requires { ⌜ hasImage profile ≡ true ⌝ }
     ensures { λ r. ⌜ SlotWritten i profile (now (store .entry)) (now (store .exit)) ⌝ }
 {
     let at = PROFILE_SIZE * i;

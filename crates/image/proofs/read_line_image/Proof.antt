@@ -3,6 +3,8 @@ use mathlib.Core.Path.{_∙_, sym, ap}
 use Rattle.profile.specs.Line.{readAnswer}
 use Rattle.image.proofs.EntryLaws.{read-image-size, read-image-done, read-image-refused}
 use Rattle.profile.specs.Rules.{classes}
+use Rattle.profile.proofs.Theorems.{writes-read}
+use Rattle.image.proofs.Theorems.{valid-fits}
 use borrow.Author.Needs.{needs}
 use Rattle.image.proofs.read_line_image.Statement.{statement}
 use Rattle.image.proofs.read_line_image.Tie as tie
@@ -18,7 +20,13 @@ enum-known-p : tie.Need-enum-known-p
 enum-known-p c = search needs
 
 write-profile-requires : tie.Need-write-profile-requires
-write-profile-requires c κs = search needs
+write-profile-requires c κs =
+    let found = c .before .before in
+    let read = found .before .before in
+    let start = read .before .before .before .before in
+    let line = start .args .line .now in
+    let meant = sym (ap readAnswer (found .p .given .1)) ∙ read .read-line .ensures in
+    (valid-fits classes _ (writes-read classes line _ (sym meant) .1) .kinds, read .before .if1 .left)
 
 enum-told : tie.Need-enum-told
 enum-told c = search needs

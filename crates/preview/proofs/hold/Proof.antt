@@ -1,6 +1,7 @@
 -- `preview::hold` meets its contract: it is one call of `store::put`. Assumes nothing.
 use mathlib.Core.Path.{refl}
 use Rattle.profile.specs.Rules.{classes}
+use Rattle.image.proofs.Theorems.{valid-fits}
 use Rattle.store.proofs.Reached.{puts-step}
 use Rattle.preview.proofs.EntryLaws.{own-valid}
 use borrow.Author.Needs.{needs}
@@ -21,7 +22,8 @@ returns c =
     let asked = c .before .before in
     let start = asked .before .before .before .before in
     let valid = own-valid classes (start .args .profile) (start .pre .1) in
-    (_, valid, puts-step _ _ _ _ _ (start .pre .0) (asked .put .ensures), refl)
+    let kinds = valid-fits classes (start .args .profile) (start .pre .1) .kinds in
+    (_, valid, puts-step _ _ _ _ _ (start .pre .0) kinds (asked .put .ensures), refl)
 
 pub hold-spec : {M : Type 1} → statement M
 hold-spec = tie.close (tie.spec cast-t6 put-requires same-length returns)

@@ -10,7 +10,7 @@ use Rattle.profile.specs.declared.Profile.{Profile}
 use Rattle.outcome.specs.Lists.{same}
 use Rattle.outcome.specs.Result.{done}
 use Rattle.profile.specs.Rules.{_to_, contains, classes, valid}
-use Rattle.profile.specs.Line.{tag, shortest, longest, lineOf, scanned}
+use Rattle.profile.specs.Line.{tag, shortest, longest, lineOf, kindIn, scanned}
 use Rattle.decimal.proofs.Stores.{appended-length, front-length, front-taken}
 use Rattle.profile.proofs.RuleLaws.{inside, under, over, failing, passing}
 use Rattle.profile.proofs.EntryLaws.{line-room, read-size, read-tag, read-broken, read-respelled, read-done}
@@ -24,20 +24,20 @@ abbrev line-fitting : tie.Else2 → List ℕ
 line-fitting c = c .before .before .before .args .line .now
 
 abbrev line-begun : tie.Else3 → List ℕ
-line-begun c = line-fitting (c .before .before .before .before)
+line-begun c = line-fitting (c .before .before)
 
 abbrev line-kept : tie.Else4 → List ℕ
 line-kept c = line-begun (c .before .before .before)
 
-abbrev line-compared : tie.After-equal2 → List ℕ
+abbrev line-compared : tie.After-equal → List ℕ
 line-compared c = line-kept (c .before .before .before .before .before)
 
 -- its length is within the limits; the tag is there; what was found keeps the rules
 sized : (c : tie.Else2) → contains (shortest to longest) (length (line-fitting c)) ≡ true
 sized c = inside shortest longest (length (line-fitting c)) (omega arith) (omega arith)
 
-tagged : (c : tie.Else3) → same (take (length tag) (line-begun c)) tag ≡ true
-tagged c = passing (c .before .equal .ensures) (c .if3 .left)
+tagged : (c : tie.Else3) → same (take 4 (line-begun c)) (tag (kindIn (line-begun c))) ≡ true
+tagged c = passing (c .before .is-tagged .ensures) (c .if3 .left)
 
 found-kept : (c : tie.Else4) → valid classes (c .before .before .scan .result) ≡ true
 found-kept c = passing (c .before .valid .ensures) (c .if4 .left)
@@ -45,7 +45,7 @@ found-kept c = passing (c .before .valid .ensures) (c .if4 .left)
 rules-kept : (c : tie.Else4) → valid classes (scanned (line-kept c)) ≡ true
 rules-kept c = rw (c .before .before .scan .ensures) at (found-kept c)
 
--- the line of what was found has room in 72 bytes
+-- the line of what was found has room in the longest buffer
 roomy : (c : tie.After-again) → Room (replicate longest 0) 0 (lineOf (c .before .before .before .scan .result))
 roomy c = line-room classes (c .before .before .before .scan .result) (replicate longest 0) (found-kept (c .before)) refl
 
@@ -60,10 +60,10 @@ put-within c =
     omega (arith, front-length (c .append-line .ensures) room, appended-length (c .append-line .ensures), room .room)
 
 -- so that the last comparison is with the line of what was scanned
-respelled : (c : tie.After-equal2) → c .equal2 .result ≡ same (lineOf (scanned (line-compared c))) (line-compared c)
+respelled : (c : tie.After-equal) → c .equal .result ≡ same (lineOf (scanned (line-compared c))) (line-compared c)
 respelled c =
     let put = c .before .before .before in
-    c .equal2 .ensures
+    c .equal .ensures
     ∙ ap (λ (l : List ℕ). same l (line-compared c)) (put-there put)
     ∙ ap (λ (p : Profile). same (lineOf p) (line-compared c)) (put .before .before .before .before .scan .ensures)
 
@@ -73,20 +73,14 @@ returns c = sym (read-size classes (c .before .before .args .line .now) (under s
 returns-2 : tie.Need-returns-2
 returns-2 c = sym (read-size classes (c .before .before .before .args .line .now) (over shortest longest _ (c .if2 .taken)))
 
-slice-aggregate-equal : tie.Need-slice-aggregate-equal
-slice-aggregate-equal c = sym (length-take-le 4 (c .before .before .before .before .args .line .now) (omega arith))
-
-slice-aggregate-equal-2 : tie.Need-slice-aggregate-equal-2
-slice-aggregate-equal-2 c = search needs
-
-equal-requires : tie.Need-equal-requires
-equal-requires c κs = search needs
+is-tagged-requires : tie.Need-is-tagged-requires
+is-tagged-requires c κs = search needs
 
 returns-3 : tie.Need-returns-3
 returns-3 c =
-    let fitting = c .before .before .before .before in
+    let fitting = c .before .before in
     let line = line-fitting fitting in
-    sym (read-tag classes line (sized fitting) (failing (c .before .equal .ensures) (c .if3 .taken)))
+    sym (read-tag classes line (sized fitting) (failing (c .before .is-tagged .ensures) (c .if3 .taken)))
 
 scan-requires : tie.Need-scan-requires
 scan-requires c κs = search needs
@@ -97,7 +91,7 @@ valid-requires c κs = search needs
 returns-4 : tie.Need-returns-4
 returns-4 c =
     let begun = c .before .before .before in
-    let fitting = begun .before .before .before .before in
+    let fitting = begun .before .before in
     let line = line-fitting fitting in
     let broken = rw (c .before .before .scan .ensures) at (failing (c .before .valid .ensures) (c .if4 .taken)) in
     sym (read-broken classes line (sized fitting) (tagged begun) broken)
@@ -111,20 +105,20 @@ append-line-requires c κs = roomy c
 array-share-prefix-again : tie.Need-array-share-prefix-again
 array-share-prefix-again c = put-within (c .before)
 
-slice-aggregate-equal-3 : tie.Need-slice-aggregate-equal-3
-slice-aggregate-equal-3 c =
+slice-aggregate-equal : tie.Need-slice-aggregate-equal
+slice-aggregate-equal c =
     let put = c .before .before in
     sym (length-take-le (put .append-line .result) (put .append-line .last .1 .0) (put-within put))
 
-equal-requires-2 : tie.Need-equal-requires-2
-equal-requires-2 c κs = search needs
+equal-requires : tie.Need-equal-requires
+equal-requires c κs = search needs
 
 returns-5 : tie.Need-returns-5
 returns-5 c =
     let compared = c .before in
     let kept = compared .before .before .before .before .before in
     let begun = kept .before .before .before in
-    let fitting = begun .before .before .before .before in
+    let fitting = begun .before .before in
     let line = line-fitting fitting in
     let again = sym (respelled compared) ∙ c .if5 .taken in
     ap done (kept .before .before .scan .ensures)
@@ -135,7 +129,7 @@ returns-6 c =
     let compared = c .before in
     let kept = compared .before .before .before .before .before in
     let begun = kept .before .before .before in
-    let fitting = begun .before .before .before .before in
+    let fitting = begun .before .before in
     let line = line-fitting fitting in
     sym (read-respelled classes line (sized fitting) (tagged begun) (rules-kept kept) (sym (respelled compared) ∙ c .if5 .left))
 
@@ -145,9 +139,7 @@ read-line-spec =
     (tie.spec
     returns
     returns-2
-    slice-aggregate-equal
-    slice-aggregate-equal-2
-    equal-requires
+    is-tagged-requires
     returns-3
     scan-requires
     valid-requires
@@ -155,7 +147,7 @@ read-line-spec =
     slice-aggregate-append-line
     append-line-requires
     array-share-prefix-again
-    slice-aggregate-equal-3
-    equal-requires-2
+    slice-aggregate-equal
+    equal-requires
     returns-5
     returns-6)

@@ -4,11 +4,11 @@ use borrow.Author.Needs.{needs}
 use Rattle.image.proofs.read.read_profile.Statement.{statement}
 use Rattle.image.proofs.read.read_profile.Tie as tie
 
-shared-slice-read-t8 : tie.Need-shared-slice-read-t8
-shared-slice-read-t8 c = search needs
+shared-slice-read-t9 : tie.Need-shared-slice-read-t9
+shared-slice-read-t9 c = search needs
 
-shared-slice-read-t10 : tie.Need-shared-slice-read-t10
-shared-slice-read-t10 c = search needs
+shared-slice-read-t11 : tie.Need-shared-slice-read-t11
+shared-slice-read-t11 c = search needs
 
 trip-at-requires : tie.Need-trip-at-requires
 trip-at-requires c κs = search needs
@@ -22,8 +22,11 @@ trip-at-requires-3 c κs = search needs
 trip-at-requires-4 : tie.Need-trip-at-requires-4
 trip-at-requires-4 c κs = search needs
 
-shared-slice-read-t8-2 : tie.Need-shared-slice-read-t8-2
-shared-slice-read-t8-2 c = search needs
+rate-at-requires : tie.Need-rate-at-requires
+rate-at-requires c κs = search needs
+
+shared-slice-read-t9-2 : tie.Need-shared-slice-read-t9-2
+shared-slice-read-t9-2 c = search needs
 
 word-at-requires : tie.Need-word-at-requires
 word-at-requires c κs = search needs
@@ -38,25 +41,28 @@ returns : tie.Need-returns
 returns c =
     let volts = c .before in
     let serial = volts .before in
-    let fourth = serial .before .before in
+    let fifth = serial .before .before in
+    let fourth = fifth .before in
     let third = fourth .before in
     let second = third .before in
     let first = second .before in
     profile-read (first .before .before .before .before .args .image .now)
     (serial .word-at .ensures) (volts .word-at2 .ensures) (c .word-at3 .ensures)
     (first .trip-at .ensures) (second .trip-at2 .ensures) (third .trip-at3 .ensures) (fourth .trip-at4 .ensures)
+    (fifth .rate-at .ensures)
 
 pub read-profile-spec : {M : Type 1} → statement M
 read-profile-spec =
     tie.close
     (tie.spec
-    shared-slice-read-t8
-    shared-slice-read-t10
+    shared-slice-read-t9
+    shared-slice-read-t11
     trip-at-requires
     trip-at-requires-2
     trip-at-requires-3
     trip-at-requires-4
-    shared-slice-read-t8-2
+    rate-at-requires
+    shared-slice-read-t9-2
     word-at-requires
     word-at-requires-2
     word-at-requires-3

@@ -41,7 +41,7 @@ trip-obeys-requires-4 c κs = search needs
 
 returns-4 : tie.Need-returns-4
 returns-4 c =
-    let past₃ = c .before .before in
+    let past₃ = c .before .before .before in
     let past₂ = past₃ .before .before .before in
     let past₁ = past₂ .before .before .before in
     rw (
@@ -49,8 +49,26 @@ returns-4 c =
       passing (past₁ .before .trip-obeys .ensures) (past₁ .if1 .left),
       passing (past₂ .before .trip-obeys2 .ensures) (past₂ .if2 .left),
       passing (past₃ .before .trip-obeys3 .ensures) (past₃ .if3 .left),
+      failing (c .before .trip-obeys4 .ensures) (c .if4 .taken),
     )
-    (c .trip-obeys4 .ensures)
+
+rate-obeys-requires : tie.Need-rate-obeys-requires
+rate-obeys-requires c κs = search needs
+
+returns-5 : tie.Need-returns-5
+returns-5 c =
+    let past₄ = c .before in
+    let past₃ = past₄ .before .before .before in
+    let past₂ = past₃ .before .before .before in
+    let past₁ = past₂ .before .before .before in
+    rw (
+      trips-apart (past₁ .before .before .before .args .p),
+      passing (past₁ .before .trip-obeys .ensures) (past₁ .if1 .left),
+      passing (past₂ .before .trip-obeys2 .ensures) (past₂ .if2 .left),
+      passing (past₃ .before .trip-obeys3 .ensures) (past₃ .if3 .left),
+      passing (past₄ .before .trip-obeys4 .ensures) (past₄ .if4 .left),
+    )
+    (c .rate-obeys .ensures)
 
 pub trips-obey-spec : {M : Type 1} → statement M
 trips-obey-spec =
@@ -63,4 +81,6 @@ trips-obey-spec =
     trip-obeys-requires-3
     returns-3
     trip-obeys-requires-4
-    returns-4)
+    returns-4
+    rate-obeys-requires
+    returns-5)

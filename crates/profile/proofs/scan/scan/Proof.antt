@@ -1,6 +1,7 @@
 -- `profile::scan::scan` meets its contract: field by field, each after the one before it. Assumes nothing.
 use Rattle.profile.proofs.LineLaws.{scanned-parts}
 use borrow.Author.Needs.{needs}
+use native.Mathlib.Omega.{arith}
 use Rattle.profile.proofs.scan.scan.Statement.{statement}
 use Rattle.profile.proofs.scan.scan.Tie as tie
 
@@ -25,18 +26,26 @@ trip-at-requires-3 c κs = c .trip-at2 .ensures .within
 trip-at-requires-4 : tie.Need-trip-at-requires-4
 trip-at-requires-4 c κs = c .trip-at3 .ensures .within
 
-shared-slice-read-t14 : tie.Need-shared-slice-read-t14
-shared-slice-read-t14 c = search needs
+rate-at-requires : tie.Need-rate-at-requires
+rate-at-requires c κs =
+    let last = c .before .before .before .before in
+    (last .before .before .before .before .before .before .before .before .pre, last .trip-at4 .ensures .within)
 
-shared-slice-read-t16 : tie.Need-shared-slice-read-t16
-shared-slice-read-t16 c = search needs
+shared-slice-read-t15 : tie.Need-shared-slice-read-t15
+shared-slice-read-t15 c = search needs
 
-shared-slice-read-t19 : tie.Need-shared-slice-read-t19
-shared-slice-read-t19 c = search needs
+shared-slice-read-t17 : tie.Need-shared-slice-read-t17
+shared-slice-read-t17 c = search needs
+
+shared-slice-read-t20 : tie.Need-shared-slice-read-t20
+shared-slice-read-t20 c =
+    let last = c .before .before .before .before .before .before .before .before in
+    omega (arith, last .before .before .before .before .before .before .before .before .pre)
 
 returns : tie.Need-returns
 returns c =
-    let trips = c .before .before .before .before .before .before .before in
+    let rate = c .before .before .before in
+    let trips = rate .before .before .before .before .before in
     let ratings = trips .before .before .before .before in
     scanned-parts
     (ratings .before .before .field-at .ensures)
@@ -46,6 +55,7 @@ returns c =
     (trips .before .before .trip-at2 .ensures)
     (trips .before .trip-at3 .ensures)
     (trips .trip-at4 .ensures)
+    (rate .rate-at .ensures)
 
 pub scan-spec : {M : Type 1} → statement M
 scan-spec =
@@ -58,7 +68,8 @@ scan-spec =
     trip-at-requires-2
     trip-at-requires-3
     trip-at-requires-4
-    shared-slice-read-t14
-    shared-slice-read-t16
-    shared-slice-read-t19
+    rate-at-requires
+    shared-slice-read-t15
+    shared-slice-read-t17
+    shared-slice-read-t20
     returns)

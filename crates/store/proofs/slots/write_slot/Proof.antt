@@ -30,7 +30,7 @@ returns c =
     let wrote = c .before .before in
     let start = wrote .before .before .before in
     let a = start .args in
-    slot-written (a .i) (a .profile) (a .store .now) _ (start .pre .0) (start .pre .1) (wrote .write-profile .ensures)
+    slot-written (a .i) (a .profile) (a .store .now) _ (start .pre .0) (start .pre .1 .0) (wrote .write-profile .ensures)
 
 pub write-slot-spec : {M : Type 1} → statement M
 write-slot-spec =
