@@ -21,7 +21,7 @@
  * also one whose change was cut. A part that does not promise that has a stricter read, with a
  * margin: the driver uses it as well, and fails where the two differ.
  *
- * Each function has both records on the stack: it needs about 3 KB, and what the driver needs. */
+ * Each function has both records on the stack: it needs about 3.5 KB, and what the driver needs. */
 #ifndef BANKS_H
 #define BANKS_H
 

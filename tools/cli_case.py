@@ -18,9 +18,12 @@ DAMAGED_STORE = 65
 SELF_CHECK_FAILED = 70
 NO_RANDOM_BYTES = 71
 FILE_TROUBLE = 74
-# A store's image, and the file that the program makes of it.
-IMAGE = 1024
-STORE = 1056
+# A profile's image, a store's of 16 such, and the file that the program makes of that.
+PROFILE = 76
+IMAGE = 16 * PROFILE
+STORE = IMAGE + 32
+# The lengths that a line may have.
+LEAST_LINE, MOST_LINE = 42, 84
 
 
 class Category(typing.NamedTuple):
@@ -60,6 +63,15 @@ PRIVATE, MASTER, SALT = FIRST.seeds()
 
 LINE = b"GP1,XA,B,12,230,50,1150,100,800,1500,1500,100,-2500,100\n"
 LINE_C = b"GP1,XA,C,5,400,50,1100,200,850,1500,1500,100,-2500,100\n"
+# With a rate point.
+RATE_LINE = b"GP2,XA,B,13,230,50,1150,100,800,1500,1500,100,-2500,100,2000,500\n"
+# The shortest and the longest line of each kind.
+SHORTEST = b"GP1,XA,A,1,100,50,1001,20,1,20,1,20,-1,20\n"
+LONGEST = b"GP1,XA,D,4294967295,1000,60,1500,60000,999,60000,5000,60000,-5000,60000\n"
+SHORTEST_RATE = b"GP2,XA,A,1,100,50,1001,20,1,20,1,20,-1,20,100,20\n"
+LONGEST_RATE = b"GP2,XA,D,4294967295,1000,60,1500,60000,999,60000,5000,60000,-5000,60000,10000,60000\n"
+# With the size of a public key of category 1.
+LINE_77 = LONGEST_RATE.replace(b"4294967295", b"123")
 # A frequency that there is not.
 BAD_LINE = LINE.replace(b",50,", b",55,")
 
@@ -68,15 +80,21 @@ KINDS = {16: "a master seed of category 1", 24: "a master seed of category 3",
          32: "a private seed or a salt of category 1, or a master seed of category 5",
          48: "a private seed or a salt of category 3, or a profile line",
          64: "a private seed or a salt of category 5, or a profile line",
-         77: "a public key of category 1", 115: "a public key of category 3", 153: "a public key of category 5",
-         1024: "a store without a checksum", 1056: "a store"}
+         77: "a public key of category 1, or a profile line", 115: "a public key of category 3",
+         153: "a public key of category 5", 1216: "a store without a checksum", 1248: "a store",
+         1024: "a store of the layout before rate points, without a checksum",
+         1056: "a store of the layout before rate points"}
+# What of this a line is not.
+RIVALS = {size: KINDS[size].removesuffix(", or a profile line") for size in (48, 64, 77)}
 
 made = {}
 
 
-def line_of(country="XA", letter="B", serial=12):
+def line_of(country="XA", letter="B", serial=12, rate=None):
+    """A line; with a rate point where there is a rate."""
     volts = {"A": 120, "B": 230, "C": 400, "D": 690}[letter]
-    return f"GP1,{country},{letter},{serial},{volts},50,1150,100,800,1500,1500,100,-2500,100\n".encode()
+    tag, point = ("GP1", "") if rate is None else ("GP2", f",{rate},500")
+    return f"{tag},{country},{letter},{serial},{volts},50,1150,100,800,1500,1500,100,-2500,100{point}\n".encode()
 
 
 def shake(data, length):
@@ -95,7 +113,8 @@ def fingerprint(key, category=FIRST):
 
 
 # What each refusal says, and what it tells to do.
-REFUSALS = {1: ("size", "gridprofile help|--category"), 2: ("draw from the seeds is short", "make another key"),
+REFUSALS = {1: ("size", "gridprofile help|--category|new-store"),
+            2: ("draw from the seeds is short", "make another key"),
             3: ("out of range", "fetch (both|it) again"), 4: ("signature does not hold", "do not use this package"),
             5: ("breaks a ", "correct the line|take a copy"), 6: ("another country or class", "which device"),
             7: ("is not greater than", "greater serial|nothing can"), 8: ("16 profiles are stored", "another store"),

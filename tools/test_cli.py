@@ -5,6 +5,7 @@ import os
 import re
 import shlex
 import shutil
+import struct
 import subprocess
 import sys
 import unittest
@@ -12,8 +13,9 @@ import unittest
 sys.dont_write_bytecode = True
 sys.path.insert(0, os.path.dirname(os.path.abspath(__file__)))
 from cli_case import (ARCHIVE, BAD_LINE, CATEGORIES, DAMAGED_STORE, FIFTH, FILE_TROUBLE, FIRST, GIVEN,  # noqa: E402
-                      IMAGE, LINE, LINE_C, MASTER, NO_RANDOM_BYTES, PREVIEW, PRIVATE, PROGRAM, ROOT, SALT,
-                      SELF_CHECK_FAILED, SIGNATURE, STORE, THIRD, WRONG_USAGE, Case, fingerprint, line_of, sealed,
+                      IMAGE, KINDS, LEAST_LINE, LINE, LINE_C, LONGEST, LONGEST_RATE, MASTER, MOST_LINE,
+                      NO_RANDOM_BYTES, PREVIEW, PRIVATE, PROFILE, PROGRAM, RATE_LINE, ROOT, SALT, SELF_CHECK_FAILED,
+                      SHORTEST, SHORTEST_RATE, SIGNATURE, STORE, THIRD, WRONG_USAGE, Case, fingerprint, line_of, sealed,
                       shake)
 import test_cli_categories  # noqa: E402
 import test_cli_files  # noqa: E402
@@ -32,7 +34,7 @@ class Key(Case):
 
     def test_seeds_of_other_sizes_are_1(self):
         for size, has in ((0, "0 bytes"), (31, "31 bytes"), (33, "33 bytes"), (65, "at least 65 bytes"),
-                          (100_000, "100000 bytes"), (77, "77 bytes, the size of a public key of category 1"),
+                          (100_000, "100000 bytes"), (77, f"77 bytes, the size of {KINDS[77]}"),
                           (16, "16 bytes, the size of a master seed of category 1")):
             said = self.refused(1, "key", self.put("private", bytes(size)), "key")
             self.assertIn(f"PRIVATE (private) has {has}; it must have 32 at category 1\n", said)
@@ -58,23 +60,22 @@ class Sign(Case):
         self.done("verify", "key", "out")
 
     def test_examples_come_of_the_seeds_told(self):
-        for name, made in (("xa-b.line", LINE), ("xa-c.line", LINE_C), ("key", self.get(self.key())),
-                           ("xa-b.package", self.get(self.package()))):
+        for name, made in (("xa-b.line", LINE), ("xa-c.line", LINE_C), ("xa-b.rate.line", RATE_LINE),
+                           ("key", self.get(self.key())), ("xa-b.package", self.get(self.package()))):
             with open(os.path.join(ROOT, "examples", name), "rb") as file:
                 self.assertEqual(file.read(), made, name)
 
     def test_shortest_and_longest_line(self):
-        shortest = b"GP1,XA,A,1,100,50,1001,20,1,20,1,20,-1,20\n"
-        longest = b"GP1,XA,D,4294967295,1000,50,1500,60000,999,60000,5000,60000,-5000,60000\n"
-        self.assertEqual((len(shortest), len(longest)), (42, 72))
-        for line in (shortest, longest):
+        lines = SHORTEST, LONGEST, SHORTEST_RATE, LONGEST_RATE
+        self.assertEqual([len(line) for line in lines], [LEAST_LINE, 72, 49, MOST_LINE])
+        for line in lines:
             self.done("verify", self.key(), self.package(line))
             self.assertTrue(self.done("show", "package").startswith(b"A package of category 1. "))
 
     def test_wrong_sizes_are_1(self):
         self.key()
         whole = {"PRIVATE": PRIVATE, "MASTER": MASTER, "SALT": SALT, "LINE": LINE, "KEY": self.get("key")}
-        for role, sizes in (("PRIVATE", (31, 33)), ("MASTER", (15, 17)), ("SALT", (0, 31, 33)), ("LINE", (0, 41, 73)),
+        for role, sizes in (("PRIVATE", (31, 33)), ("MASTER", (15, 17)), ("SALT", (0, 31, 33)), ("LINE", (0, 41, 85)),
                             ("KEY", (0, 76, 78))):
             for size in sizes:
                 for name, data in {**whole, role: (whole[role] * 2)[:size]}.items():
@@ -83,32 +84,33 @@ class Sign(Case):
                               self.refused(1, "sign", "private", "line", "package", *GIVEN))
 
     def test_lines_that_break_a_rule_are_5(self):
-        fields = LINE.decode().rstrip("\n").split(",")
-        spoils = {0: "GP2", 1: "xa", 2: "C", 3: "0", 4: "99", 5: "55", 6: "1000", 7: "19", 8: "1000", 9: "60001",
-                  10: "5001", 11: "0100", 12: "2500", 13: ""}
+        fields = RATE_LINE.decode().rstrip("\n").split(",")
+        spoils = {0: "GP3", 1: "xa", 2: "C", 3: "0", 4: "99", 5: "55", 6: "1000", 7: "19", 8: "1000", 9: "60001",
+                  10: "5001", 11: "0100", 12: "2500", 13: "", 14: "99", 15: "60001"}
         self.package()
-        for at, bad in spoils.items():
-            line = ",".join(fields[:at] + [bad] + fields[at + 1:]) + "\n"
-            said = self.refused(5, "sign", "private", self.put("line", line.encode()), "out")
-            self.assertIn(f"field {at + 1}, ", said)
-        for line in (LINE.decode()[:-1] + " ", LINE.decode() + "x"):
-            self.refused(5, "sign", "private", self.put("line", line.encode()), "out")
+        for tag, count in (("GP1", 14), ("GP2", 16)):
+            for at, bad in list(spoils.items())[:count]:
+                line = ",".join([tag, *fields[1:count]][:at] + [bad] + fields[at + 1:count]) + "\n"
+                said = self.refused(5, "sign", "private", self.put("line", line.encode()), "out")
+                self.assertIn(f"field {at + 1}, ", said)
+        for line in (LINE[:-1] + b" ", LINE + b"x", b"GP1" + RATE_LINE[3:], b"GP2" + LINE[3:],
+                     LONGEST[:-1] + b"0\n", LONGEST[:-1] + b"0" * 12 + b"\n", b"GP2" + SHORTEST[3:]):
+            self.refused(5, "sign", "private", self.put("line", line), "out")
 
     def test_causes_are_said_in_words(self):
         """What people meet: how a line is saved, and how it is typed. Also where the line is then too long or short."""
-        shortest, longest = (b"GP1,XA,A,1,100,50,1001,20,1,20,1,20,-1,20\n",
-                             b"GP1,XA,D,4294967295,1000,50,1500,60000,999,60000,5000,60000,-5000,60000\n")
         causes = ((lambda line: line[:-1] + b"\r\n", "ends in CR LF"),
                   (lambda line: line[:-1], "line feed at the end is"),
                   (lambda line: b"\xef\xbb\xbf" + line, "byte order mark (EF BB BF)"),
                   (lambda line: line.replace(b"XA", b"xa"), 'field 2, country, is "xa", in lower case; it must be'),
-                  (lambda line: line.replace(b",50,", b", 50,"), "field 6, hertz, is \" 50\", with a space or a tab"),
+                  (lambda line: line.replace(b",60,", b",50,").replace(b",50,", b", 50,"),
+                   "field 6, hertz, is \" 50\", with a space or a tab"),
                   (lambda line: line + line, "bytes stand after the line feed"))
         self.package()
-        for line in (shortest, LINE, longest):
+        for line in (SHORTEST, LINE, LONGEST, LONGEST_RATE):
             for change, words in causes:
                 bad = change(line)
-                number = 5 if 42 <= len(bad) <= 72 else 1
+                number = 5 if LEAST_LINE <= len(bad) <= MOST_LINE else 1
                 said = self.refused(number, "sign", "private", self.put("line", bad), "out")
                 self.assertIn(words, said)
                 self.assertIn("What to do: correct the line", said)
@@ -117,14 +119,14 @@ class Sign(Case):
         """Also of nothing, and of more than the program reads; and only where it is the line that is wrong."""
         self.package()
         for line, words in ((b"", "the line is empty"), (LINE * 40, "bytes stand after the line feed"),
-                            (LINE[:-1] + b"0" * 3000, "no line feed stands in its first 72 bytes"),
+                            (LINE[:-1] + b"0" * 3000, "no line feed stands in its first 84 bytes"),
                             (b"x" * 3000, "this does not look like a profile line")):
             said = self.refused(1, "sign", "private", self.put("line", line), "out").splitlines()
             self.assertIn(f"LINE (line) has {len(line)} bytes", said[1])
             self.assertTrue(any(words in one for one in said[2:-1]), said)
         said = self.refused(1, "sign", "private", "-", "out", stdin=LINE * 40)
-        self.assertIn("LINE (standard input) has at least 1024 bytes; it must have 42 to 72\n", said)
-        for line in (LINE, test_cli_lines.SHORTEST, test_cli_lines.LONGEST):
+        self.assertIn("LINE (standard input) has at least 1024 bytes; it must have 42 to 84\n", said)
+        for line in (LINE, SHORTEST, LONGEST, SHORTEST_RATE, LONGEST_RATE):
             said = self.refused(1, "sign", "key", self.put("line", line), "out").splitlines()
             self.assertEqual([one.split(" (")[0] for one in said[1:-1]], ["  PRIVATE"], said)
 
@@ -143,8 +145,8 @@ SIGN_ANY = """
 #include "gridprofile_category5.h"
 int main(void)
 {
-    uint8_t seeds[2 * SEED + MASTER], line[73], signature[SIGNATURE], *master = seeds + SEED, *salt = master + MASTER;
-    size_t length = fread(seeds, 1, sizeof seeds, stdin) == sizeof seeds ? fread(line, 1, 73, stdin) : 0;
+    uint8_t seeds[2 * SEED + MASTER], line[85], signature[SIGNATURE], *master = seeds + SEED, *salt = master + MASTER;
+    size_t length = fread(seeds, 1, sizeof seeds, stdin) == sizeof seeds ? fread(line, 1, 85, stdin) : 0;
     if (SIGN(seeds, SEED, master, MASTER, salt, SEED, line, length, signature, sizeof signature) != 0)
         return 1;
     return fwrite(signature, 1, sizeof signature, stdout) + fwrite(line, 1, length, stdout) == 0;
@@ -178,7 +180,7 @@ class Verify(Case):
         key, package = self.get(self.key()), self.get(self.package())
         for bad in (b"", key[:-1], key + b"\0"):
             self.refused(1, "verify", self.put("bad", bad), "package")
-        for bad in (b"", package[:19193], package + bytes(17)):
+        for bad in (b"", package[:19193], package + bytes(19237 - len(package))):
             self.refused(1, "verify", "key", self.put("bad", bad))
 
     def test_exchanged_files_are_named(self):
@@ -186,8 +188,8 @@ class Verify(Case):
         said = self.refused(1, "verify", "package", "key")
         self.assertIn("KEY (package) has 19208 bytes, the size of a package of category 1; it must have 77 at category "
                       "1\n", said)
-        self.assertIn("PACKAGE (key) has 77 bytes, the size of a public key of category 1; it must have 19194 to 19224 "
-                      "at category 1\n", said)
+        self.assertIn(f"PACKAGE (key) has 77 bytes, the size of {KINDS[77]}; it must have 19194 to 19236 at category "
+                      "1\n", said)
         self.assertIn("What to do: give the files in the order of the usage; ", said)
 
     def test_damage_is_3_or_4(self):
@@ -207,6 +209,10 @@ class Verify(Case):
         for category in CATEGORIES:
             words = "verify", self.key(category=category), package_any(self, BAD_LINE, category), *category.option()
             self.assertIn("field 6, ", self.refused(5, *words))
+        package_any(self, b"GP2" + LINE[3:])
+        self.assertIn("field 15, rate of change, is missing", self.refused(5, "verify", self.key(), "package"))
+        package_any(self, LONGEST_RATE.replace(b"10000,", b"10001,"))
+        self.assertIn('field 15, rate of change, is "10001"', self.refused(5, "verify", "key", "package"))
 
 
 class Load(Case):
@@ -242,6 +248,17 @@ class Load(Case):
         self.done(*self.load(LINE_C, "XA", "C"))
         self.assertEqual(self.done("lookup", "store", "XA", "B"), LINE)
         self.assertEqual(self.done("lookup", "store", "XA", "C"), LINE_C)
+
+    def test_rate_point_comes_and_goes(self):
+        """A newer profile replaces the whole of the older one, whichever of them has a rate point."""
+        for line, image in ((LINE, bytes(12)), (RATE_LINE, struct.pack("<3I", 1, 2000, 500)),
+                            (line_of(serial=14, rate=100), struct.pack("<3I", 1, 100, 500)),
+                            (line_of(serial=15), bytes(12))):
+            self.done(*self.load(line, "XA", "B"))
+            self.assertEqual(self.done("lookup", "store", "XA", "B"), line)
+            store = self.get("store")
+            self.assertEqual(store[store.index(b"\x01XAB") + 64:][:12], image)
+        self.refused(7, *self.load(RATE_LINE, "XA", "B"))
 
     def test_serials(self):
         for serial, answer in ((12, 0), (12, 7), (13, 0), (12, 7), (13, 7), (4294967294, 0), (1, 7)):
@@ -290,8 +307,8 @@ class Load(Case):
     def test_wrong_sizes_are_1(self):
         words = self.load(LINE, "XA", "B")
         self.done(*words)
-        for at, role, least, most in ((1, "STORE", 1056, 1056), (2, "KEY", 77, 77), (3, "PACKAGE", 19194, 19224)):
-            for size in (0, least - 1, most + 1, 1023, 1025, 200_000):
+        for at, role, least, most in ((1, "STORE", STORE, STORE), (2, "KEY", 77, 77), (3, "PACKAGE", 19194, 19236)):
+            for size in (0, least - 1, most + 1, IMAGE - 1, IMAGE + 1, 200_000):
                 bad = self.put("bad", (self.get(words[at]) + bytes(200_000))[:size])
                 said = self.refused(1, *words[:at], bad, *words[at + 1:])
                 self.assertEqual(re.findall("(?m)^  ([A-Z]+) .* has ", said), [role])
@@ -370,9 +387,9 @@ class Damage(Case):
     def test_profile_that_breaks_a_rule_is_damage(self):
         """With and without a checksum; a lookup of a profile that is whole still answers."""
         image = self.get(self.store(LINE))[:IMAGE]
-        slot = image[:64] if image[0] else image[-64:]
+        slot = image[:PROFILE] if image[0] else image[-PROFILE:]
         other = slot.replace(b"XAB", b"XBB").replace(b"\x32\0\0\0", b"\x33\0\0\0")
-        image = slot + other + bytes(IMAGE - 128)
+        image = slot + other + bytes(IMAGE - 2 * PROFILE)
         for data in (image, sealed(image)):
             self.put("bad", data)
             said = self.refused(5, "lookup", "bad", "XB", "B")
@@ -385,10 +402,10 @@ class Damage(Case):
 
     def test_every_slot_is_looked_at(self):
         image = self.get(self.store(LINE))[:IMAGE]
-        broken = (image[:64] if image[0] else image[-64:]).replace(b"\x32\0\0\0", b"\x33\0\0\0")
+        broken = (image[:PROFILE] if image[0] else image[-PROFILE:]).replace(b"\x32\0\0\0", b"\x33\0\0\0")
         load, _, show = self.readers("bad")
         for slot in range(16):
-            self.put("bad", sealed(bytes(64 * slot) + broken + bytes(64 * (15 - slot))))
+            self.put("bad", sealed(bytes(PROFILE * slot) + broken + bytes(PROFILE * (15 - slot))))
             self.assertIn(f"slot {slot + 1} holds what no load leaves there".encode(), self.damaged(*load).stderr)
             self.assertIn(f"\nslot {slot + 1}: damaged, breaks a rule\n".encode(), self.damaged(*show).stdout)
         self.put("bad", self.get("bad")[:IMAGE] + bytes(32))
@@ -396,12 +413,16 @@ class Damage(Case):
 
     def test_images_that_no_load_made_are_damaged(self):
         """A load would put a checksum over them: a slot that is not used but for its first byte, a used byte of 2, a
-        pair that stands twice, a kind that is written otherwise."""
-        image = self.get(self.store(LINE, LINE_C))[:IMAGE]
+        pair that stands twice, a kind or a presence that is written otherwise, numbers of a rate point that is absent,
+        and rate points that break a rule."""
+        image = self.get(self.store(RATE_LINE, LINE_C))[:IMAGE]
         at, other = image.index(b"\x01XAB"), image.index(b"\x01XAC")
-        wrong = (image[:at] + b"\0" + image[at + 1:], image[:at] + b"\x02" + image[at + 1:],
-                 image[:other] + image[at:at + 64] + image[other + 64:],
-                 image[:at + 52] + b"\x03" + image[at + 53:], bytes(IMAGE - 1) + b"\x01")
+        wrong = [image[:at] + b"\0" + image[at + 1:], image[:at] + b"\x02" + image[at + 1:],
+                 image[:other] + image[at:at + PROFILE] + image[other + PROFILE:],
+                 image[:at + 52] + b"\x03" + image[at + 53:], bytes(IMAGE - 1) + b"\x01"]
+        for point in ((2, 2000, 500), (256, 2000, 500), (0, 2000, 500), (0, 2000, 0), (0, 0, 500), (1, 99, 500),
+                      (1, 10001, 500), (1, 2000, 19), (1, 2000, 60001), (1, 0, 0)):
+            wrong.append(image[:at + 64] + struct.pack("<3I", *point) + image[at + PROFILE:])
         for data in wrong:
             self.put("bad", data)
             load, _, show = self.readers("bad")
@@ -415,10 +436,64 @@ class Damage(Case):
 
     def test_store_of_a_wrong_size_may_be_damaged(self):
         whole = self.get(self.store(LINE))
-        for data in (whole[:1040], whole[:500], b"", whole + b"x"):
+        for data in (whole[:1232], whole[:500], b"", whole + b"x"):
             said = self.refused(1, "lookup", self.put("bad", data), "XA", "B")
             self.assertIn("If it was a store, it is damaged", said)
         self.assertNotIn("damaged", self.refused(1, "lookup", "key", "XA", "B"))
+
+
+class Former(Case):
+    """Stores of the layout before rate points, with and without a checksum."""
+
+    IMAGE = struct.pack("<4B3I12I", 1, *b"XAB", 12, 230, 50, 0, 1150, 100, 0, 800, 1500, 1, 1500, 100, 2, 2500, 100)
+    ADVICE = ("  What to do: a store of this layout is not converted: make a new one by `gridprofile new-store` and "
+              "load its packages again.\n")
+
+    def stores(self):
+        """One with a profile and an empty one."""
+        for image in (self.IMAGE + bytes(15 * 64), bytes(1024)):
+            yield image
+            yield sealed(image)
+
+    def told(self, command, name, size):
+        return (f"gridprofile {command}: refused with 1: a file has a wrong size\n  STORE ({name}) has {size} bytes, "
+                f"the size of {KINDS[size]}; it must have 1248 or 1216\n")
+
+    def test_they_are_refused_with_1(self):
+        self.package()
+        for data in self.stores():
+            self.put("old", data)
+            for command, *more in (("load", "key", "package", "XA", "B"), ("lookup", "XA", "B")):
+                for name, shown in (("old", "old"), ("-", "standard input")):
+                    said = self.refused(1, command, name, *more, stdin=data)
+                    self.assertEqual(said, self.told(command, shown, len(data)) + self.ADVICE)
+            self.assertEqual(self.refused(1, "show", "old"), f"gridprofile show: refused with 1: old has the size of "
+                             f"{KINDS[len(data)]}, of which nothing is shown\n{self.ADVICE}")
+
+    def test_the_advice_works(self):
+        self.package(), self.put("old", sealed(bytes(1024)))
+        self.assertIn("old: it exists; --force replaces it", self.troubled(FILE_TROUBLE, "new-store", "old"))
+        self.done("new-store", "old", "--force")
+        self.done("load", "old", "key", "package", "XA", "B")
+        self.assertEqual(self.done("lookup", "old", "XA", "B"), LINE)
+
+    def test_10_comes_before_1(self):
+        self.package(), self.put("old", sealed(bytes(1024)))
+        self.refused(10, "load", "old", "key", "package", "XA", "E")
+        self.refused(10, "lookup", "old", "XA", "E")
+
+    def test_other_files_of_a_wrong_size_are_named_too(self):
+        self.package(category=THIRD), self.put("old", sealed(bytes(1024)))
+        said = self.refused(1, "load", "old", "key", "package", "XA", "B")
+        self.assertEqual(re.findall("(?m)^  ([A-Z]+) .* has ", said), ["STORE", "KEY", "PACKAGE"])
+        self.assertTrue(said.endswith(" at category 1\n" + self.ADVICE), said)
+
+    def test_in_the_place_of_another_file(self):
+        """They are named there too, but a new store would not help."""
+        self.package(), self.put("old", sealed(bytes(1024)))
+        said = self.refused(1, "verify", "old", "package")
+        self.assertIn(f"KEY (old) has 1056 bytes, the size of {KINDS[1056]}; it must have 77 at category 1\n", said)
+        self.assertIn("What to do: give the files in the order of the usage; ", said)
 
 
 class Lookup(Case):
@@ -436,9 +511,9 @@ class Lookup(Case):
             self.refused(10, "lookup", self.store(name="empty"), *device)
 
     def test_wrong_sizes_are_1(self):
-        for size in (0, 1023, 1025, 1055, 1057):
+        for size in (0, 1023, 1025, 1055, 1057, 1215, 1217, 1247, 1249):
             said = self.refused(1, "lookup", self.put("bad", bytes(size)), "XA", "B")
-            self.assertIn("it must have 1056 or 1024\n", said)
+            self.assertIn("it must have 1248 or 1216\n", said)
 
 
 WORDS = """country XA, class B, serial 12
@@ -448,6 +523,8 @@ WORDS = """country XA, class B, serial 12
   over-frequency  1500 mHz above nominal (51.500 Hz), after 100 ms
   under-frequency 2500 mHz below nominal (47.500 Hz), after 100 ms
 """
+RATE_WORDS = WORDS.replace("serial 12", "serial 13") + \
+    "  rate of change  2000 mHz per second (2.000 Hz/s), after 500 ms\n"
 
 
 class Show(Case):
@@ -458,6 +535,16 @@ class Show(Case):
 
     def test_line(self):
         self.assertEqual(self.done("show", self.put("line", LINE)).decode(), "A line, not signed.\n" + WORDS)
+
+    def test_rate_point(self):
+        """It comes last, in a line, a package and a store; of a profile without one nothing is said of it."""
+        self.assertEqual(self.done("show", self.put("line", RATE_LINE)).decode(), "A line, not signed.\n" + RATE_WORDS)
+        for category in CATEGORIES:
+            shown = self.done("show", self.package(RATE_LINE, category=category)).decode()
+            self.assertEqual(shown.partition("\n")[2], RATE_WORDS)
+        shown = self.done("show", self.store(RATE_LINE, LINE_C)).decode()
+        self.assertIn(RATE_WORDS, shown)
+        self.assertEqual(shown.count("rate of change"), 1)
 
     def test_key(self):
         shown = self.done("show", self.key()).decode()
@@ -485,9 +572,14 @@ class Show(Case):
                       "1 mHz above nominal (60.001 Hz), after 59999 ms",
                       "4999 mHz below nominal (55.001 Hz), after 33 ms"):
             self.assertIn(words, shown)
+        for rate, words in ((100, "0.100"), (101, "0.101"), (999, "0.999"), (1000, "1.000"), (9876, "9.876"),
+                            (10000, "10.000")):
+            shown = self.done("show", self.put("line", line_of(rate=rate))).decode()
+            self.assertIn(f"\n  rate of change  {rate} mHz per second ({words} Hz/s), after 500 ms\n", shown)
 
     def test_other_sizes_are_1(self):
-        for size in (0, 41, 73, 76, 78, 114, 116, 152, 154, 1023, 1025, 19193, 19225, 42723, 42755, 76339, 76371, 9999):
+        for size in (0, 41, 85, 114, 116, 152, 154, 1023, 1025, 1055, 1057, 1215, 1217, 1247, 1249, 19193, 19237, 42723,
+                     42767, 76339, 76383, 9999):
             self.assertIn("bad has the size of no line", self.refused(1, "show", self.put("bad", bytes(size))))
 
     def test_what_breaks_a_rule_is_5(self):
@@ -500,13 +592,13 @@ class Show(Case):
             self.assertNotIn(b"55", ran.stdout)
 
     def test_what_has_the_size_of_a_line_is_taken_for_one(self):
-        for size in (42, 47, 49, 63, 65, 72):
+        for size in (42, 47, 49, 63, 65, 72, 73, 76, 78, 84):
             ran = self.run_in("show", self.put("bad", b"x" * size))
             self.assertEqual((ran.returncode, ran.stdout), (5, b"A line, not signed.\n"))
 
     def test_what_is_wrong_comes_after_what_is_shown(self):
         """Where both streams go to one file."""
-        for data, first in ((BAD_LINE, b"A line, not signed.\n"), (bytes(1024)[:-1] + b"x", b"A store with 0 of 16")):
+        for data, first in ((BAD_LINE, b"A line, not signed.\n"), (bytes(IMAGE - 1) + b"x", b"A store with 0 of 16")):
             ran = self.run_in("show", self.put("bad", data), stderr=subprocess.STDOUT)
             told = [ran.stdout.find(words) for words in (first, b"What to do: ")]
             self.assertTrue(0 <= told[0] < told[1], ran.stdout)
@@ -593,9 +685,11 @@ class Usage(Case):
 
     def test_help_of_the_line(self):
         shown = self.done("help", "line").decode()
-        example = re.search(r"^  (GP1,.*\n)", shown, re.M).group(1)
-        self.done("show", self.put("line", example.encode()))
-        self.assertEqual(re.findall(r"^ +(\d+) [a-z]", shown, re.M), [str(at) for at in range(1, 15)])
+        examples = re.findall(r"^  (GP[12],.*\n)", shown, re.M)
+        self.assertEqual([example[:4] for example in examples], ["GP1,", "GP2,"])
+        for example in examples:
+            self.done("show", self.put("line", example.encode()))
+        self.assertEqual(re.findall(r"^ +(\d+) [a-z]", shown, re.M), [str(at) for at in range(1, 17)])
 
     def test_version(self):
         with open(os.path.join(ROOT, "include/gridprofile.h"), encoding="utf-8") as file:
@@ -687,6 +781,12 @@ def readme_blocks():
     return [re.sub("(?m)^    ", "", block) for block in re.findall(r"\n\n((?:    .*\n)+)", text)]
 
 
+def readme_shown():
+    """What `show` prints of a line, as it stands there."""
+    with open(os.path.join(ROOT, "README.md"), encoding="utf-8") as file:
+        return re.search(r"\n```\n((?:.+\n)+)```\n", file.read()).group(1).encode()
+
+
 class Readme(Case):
     def test_blocks_one_after_the_other(self):
         """As a reader pastes them into one shell, in a folder with what the repository has. The archive is there
@@ -703,7 +803,7 @@ class Readme(Case):
                              check=False, env={**os.environ, "TMPDIR": self.folder,
                                                "PATH": self.path("bin") + ":" + os.environ["PATH"]})
         self.assertEqual((ran.returncode, ran.stderr), (0, b""), ran.stdout)
-        for told in (b"\nDone: ", b"\n" + LINE, b"load answers 0\n"):
+        for told in (b"\nDone: ", b"\n" + LINE, b"load answers 0\n", readme_shown()):
             self.assertIn(told, ran.stdout)
 
     def test_every_command_is_in_the_table(self):
@@ -753,6 +853,16 @@ class Formats(Case):
             self.assertEqual([name for name, data in wanted.items() if shortened(data) not in text], [])
             for whole in (key, package, package[:category.signature]):
                 self.assertIn(category.shake(whole, 32).hex(" ").upper() + "\n", text)
+
+    def test_package_of_the_line_with_a_rate_point(self):
+        """It has a master seed and a salt of its own."""
+        self.package(RATE_LINE), self.put("master", bytes(range(132, 148))), self.put("salt", bytes(range(64, 96)))
+        self.done("sign", "private", "line", "out", *GIVEN)
+        package = self.get("out")
+        with open(os.path.join(ROOT, "examples/xa-b.rate.package"), "rb") as file:
+            self.assertEqual(file.read(), package)
+        for whole in (package[:SIGNATURE], package):
+            self.assertIn("\n    " + shake(whole, 32).hex(" ").upper() + "\n", formats())
 
     def commands(self, category):
         """Those of the document, as a reader pastes them, with the words that its table has for the category."""
@@ -814,6 +924,12 @@ class Firmware(Case):
         said = b"verify answers 0\nload answers 0\ncommitted\nlookup answers 0\n" + LINE
         self.assertEqual((ran.returncode, ran.stdout), (0, said + b"load of the same package again answers 7\n"))
 
+    def test_package_with_a_rate_point(self):
+        package = self.get(self.package(RATE_LINE))
+        ran = subprocess.run([os.path.join(ROOT, self.PROGRAM)], input=package, capture_output=True, check=False)
+        said = b"verify answers 0\nload answers 0\ncommitted\nlookup answers 0\n" + RATE_LINE
+        self.assertEqual((ran.returncode, ran.stdout), (0, said + b"load of the same package again answers 7\n"))
+
     def test_device_of_each_category(self):
         """It takes the package of its own category, and refuses those of the others with 1."""
         packages = [self.get(self.package(category=category)) for category in CATEGORIES]
@@ -859,7 +975,8 @@ class Demo(Case):
         ran = subprocess.run([os.path.join(ROOT, "tools/demo"), PROGRAM], env={**os.environ, "TMPDIR": self.folder},
                              capture_output=True, check=False)
         self.assertEqual(ran.returncode, 0, ran.stderr)
-        for words in (b"refused with 6: ", b"exit status 6\n", b"A store with 2 of 16 profiles.\n", LINE,
+        for words in (b"refused with 6: ", b"exit status 6\n", b"A store with 2 of 16 profiles.\n",
+                      RATE_WORDS.encode(), b"\n" + RATE_LINE,
                       b"\n$ gridprofile verify key.5 xa-b.5.package --category 5\nThe signature holds", b"\nDone: "):
             self.assertIn(words, ran.stdout)
         self.assertEqual(self.names(), [])

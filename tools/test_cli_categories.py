@@ -5,12 +5,15 @@ import itertools
 import os
 import stat
 
-from cli_case import (CATEGORIES, FIFTH, FILE_TROUBLE, FIRST, GIVEN, KINDS, LINE, LINE_C, ROOT, THIRD, WRONG_USAGE,
-                      Case, fingerprint, line_of)
+from cli_case import (CATEGORIES, FIFTH, FILE_TROUBLE, FIRST, GIVEN, IMAGE, KINDS, LEAST_LINE, LINE, LINE_77, LINE_C,
+                      LONGEST_RATE, MOST_LINE, RATE_LINE, RIVALS, ROOT, SHORTEST, STORE, THIRD, WRONG_USAGE, Case,
+                      fingerprint, line_of)
+from test_cli_lines import NO_LINE
 
 # Lines with the size of a seed of category 3 and of one of category 5.
 LINE_48 = b"GP1,XA,A,1234567,100,50,1001,20,1,20,1,20,-1,20\n"
 LINE_64 = line_of(serial=1234567890)
+RATE_LINE_64 = RATE_LINE.replace(b",13,", b",9,")
 
 ORDER = "give the files in the order of the usage; `gridprofile help` lists their sizes"
 DIFFERENT = "these files are of different categories: take files of one, and name it by `--category`"
@@ -74,10 +77,10 @@ class Each(Case):
 
     def test_package_is_signature_and_line(self):
         """A line of every size that there may be, and of those which a seed has; each comes out again."""
-        shortest = b"GP1,XA,A,1,100,50,1001,20,1,20,1,20,-1,20\n"
-        longest = b"GP1,XA,D,4294967294,1000,50,1500,60000,999,60000,5000,60000,-5000,60000\n"
-        self.assertEqual([len(line) for line in (shortest, LINE_48, LINE_64, longest)], [42, 48, 64, 72])
-        for category, line in itertools.product(CATEGORIES, (shortest, LINE_48, LINE_64, longest)):
+        longest = LONGEST_RATE.replace(b"4294967295", b"4294967294")
+        lines = SHORTEST, LINE_48, LINE_64, RATE_LINE_64, LINE_77, longest
+        self.assertEqual([len(line) for line in lines], [LEAST_LINE, 48, 64, 64, 77, MOST_LINE])
+        for category, line in itertools.product(CATEGORIES, lines):
             package = self.get(self.package(line, category=category))
             self.assertEqual((package[:category.seed], package[category.signature:]), (category.seeds()[2], line))
             self.done("verify", "key", "package", *category.option())
@@ -138,8 +141,8 @@ class Each(Case):
             for words, name, least, most in (
                     (sign, "private", category.seed, category.seed), (sign, "master", category.master, category.master),
                     (sign, "salt", category.seed, category.seed), (sign, "key", category.key, category.key),
-                    (["verify", "key", "package", *category.option()], "package", category.signature + 42,
-                     category.signature + 72)):
+                    (["verify", "key", "package", *category.option()], "package", category.signature + LEAST_LINE,
+                     category.signature + MOST_LINE)):
                 for size in (0, least - 1, most + 1):
                     bad = self.put("bad", (self.get(name) + bytes(99))[:size])
                     said = self.refused(1, *(bad if word == name else word for word in words))
@@ -178,7 +181,7 @@ class Other(Case):
         for name, of in wrong:
             size, must = self.SIZES[name](of), str(self.SIZES[name](asked))
             if name == "package":
-                must = f"{asked.signature + 42} to {asked.signature + 72}"
+                must = f"{asked.signature + LEAST_LINE} to {asked.signature + MOST_LINE}"
             told += size_said(name.upper(), f"{name}{of.number}", size, must, asked)
         of_all = {of.number for _, of in parts}
         advice = DIFFERENT if len(of_all) > 1 else (f"`--category {of_all.pop()}` is for files of these sizes; "
@@ -261,22 +264,23 @@ class Shared(Case):
             if size == 77:
                 words = "verify", "key", "bad"
             self.assertIn(f" (bad) has {size} bytes, the size of {name}; it must have ", self.refused(1, *words))
-        for size in (42, 47, 49, 63, 65, 72):
+        for size in (42, 47, 49, 63, 65, 72, 73, 76, 78, 84):
             said = self.refused(1, "verify", self.put("bad", b"\xff" * size), "package")
             self.assertIn(f"has {size} bytes, the size of a profile line; it must have ", said)
 
     def test_nothing_is_shown_of_what_may_be_a_seed(self):
         for size in (16, 24, 32, 48, 64):
-            for data in (b"\xff" * size, FIFTH.shake(b"a seed", size), b"gp1," + b"x" * (size - 4), b"GP1" * size):
+            for data in (b"\xff" * size, FIFTH.shake(b"a seed", size), b"gp1," + b"x" * (size - 4), b"GP1" * size,
+                         b"GP2" * size, b"GP3," * size):
                 data = data[:size]
-                why = ", and does not begin as a line does, with GP1: nothing of it is shown" if size > 42 else \
+                why = ", and does not begin as a line does, with GP1 or GP2: nothing of it is shown" if size > 42 else \
                     ", of which nothing is shown"
                 said = self.refused(1, "show", self.put("bad", data))
                 self.assertEqual(said, f"gridprofile show: refused with 1: bad has the size of {KINDS[size]}{why}\n"
                                  "  What to do: `gridprofile help` lists the sizes.\n")
 
     def test_line_with_the_size_of_a_seed_is_shown(self):
-        for line in (LINE_48, LINE_64):
+        for line in (LINE_48, LINE_64, RATE_LINE_64):
             self.assertIn(len(line), (THIRD.seed, FIFTH.seed))
             shown = self.done("show", self.put("line", line)).decode()
             self.assertTrue(shown.startswith("A line, not signed.\ncountry XA, class "), shown)
@@ -287,7 +291,7 @@ class Shared(Case):
 
     def test_line_in_the_place_of_a_seed(self):
         """What begins as a line is named a line. Where it has the size that is asked for, it is not taken either."""
-        for line, own in ((LINE_48, THIRD), (LINE_64, FIFTH)):
+        for line, own in ((LINE_48, THIRD), (LINE_64, FIFTH), (RATE_LINE_64, FIFTH)):
             self.put("line", line)
             for category in CATEGORIES:
                 for words in (["key", "line", "out"], ["sign", "line", "line", "out"]):
@@ -301,16 +305,16 @@ class Shared(Case):
                         self.assertIn(f"What to do: {ORDER}.", said)
 
     def test_line_in_the_place_of_a_salt(self):
-        for line, own in ((LINE_48, THIRD), (LINE_64, FIFTH)):
+        for line, own in ((LINE_48, THIRD), (LINE_64, FIFTH), (RATE_LINE_64, FIFTH)):
             self.package(category=own), self.put("profile", line)
             given = ["profile" if word == "salt" else word for word in GIVEN]
             said = self.troubled(WRONG_USAGE, "sign", "private", "line", "out", *given, *own.option())
             self.assertIn("SALT is a profile line, which everybody may know", said)
 
     def test_seed_that_only_begins_as_a_line(self):
-        """One in four thousand millions does, and is a seed all the same."""
-        for category in CATEGORIES:
-            private = b"GP1," + category.shake(b"a seed", category.seed - 4)
+        """One in two thousand millions does, and is a seed all the same."""
+        for category, tag in itertools.product(CATEGORIES, (b"GP1,", b"GP2,")):
+            private = tag + category.shake(b"a seed", category.seed - 4)
             self.done("key", self.put("private", private), "out", "--force", *category.option())
 
     def test_seed_in_the_place_of_a_line(self):
@@ -318,8 +322,113 @@ class Shared(Case):
             self.package(category=category)
             self.put("seed", category.shake(b"a seed", category.seed))
             said = self.refused(5, "sign", "private", "seed", "out", *category.option())
-            self.assertIn("\n  field 1, tag, is not GP1; this does not look like a profile line\n", said)
+            self.assertIn(f"\n  {NO_LINE}, but has the size of {RIVALS[category.seed]}\n", said)
             self.assertEqual(len(said.splitlines()), 3, said)
+
+
+# A private seed whose key begins as a line does. It was searched for: one in two thousand millions does.
+SEED_OF_KEY_LIKE_LINE = (480386638).to_bytes(32, "little")
+
+
+class LineOrKey(Case):
+    """77 bytes may be a public key of category 1 or a profile line. In the place of a key they are a key, in that of a
+    line a line; for `show`, and in what is said of them, what they begin with tells."""
+
+    BAD = LINE_77.replace(b",60,", b",55,")
+
+    def setUp(self):
+        """A key, its package, a store, a line, and one that breaks a rule."""
+        super().setUp()
+        self.store(), self.package(), self.put("good", LINE_77), self.put("bad", self.BAD)
+        self.assertEqual({len(self.get(name)) for name in ("key", "good", "bad")}, {77})
+
+    def key_like_line(self):
+        """It comes with its private seed and a package."""
+        self.package(private=SEED_OF_KEY_LIKE_LINE)
+        key = self.get("key")
+        self.assertEqual((key[:4], len(key)), (b"GP2,", 77))
+        return key
+
+    def test_key_that_begins_as_a_line(self):
+        """It is a key all the same, wherever one is asked for."""
+        key = self.key_like_line()
+        self.assertIn(fingerprint(key).encode(), self.done("verify", "key", "package"))
+        self.done("load", "store", "key", "package", "XA", "B")
+        self.done("sign", "private", "line", "out", "--key", "key")
+        self.done("verify", "-", "out", stdin=key)
+        self.done("key", "private", "key", "--force")
+        self.assertEqual(self.get("key"), key)
+
+    def test_show(self):
+        key = self.get("key")
+        self.assertEqual(self.done("show", "key").decode(), "A public key of category 1.\n" + fingerprint(key))
+        shown = self.done("show", "good")
+        self.assertTrue(shown.startswith(b"A line, not signed.\ncountry XA, class D, serial 123\n"), shown)
+        self.assertEqual((self.done("show", "-", stdin=key), self.done("show", "-", stdin=LINE_77)),
+                         (self.done("show", "key"), shown))
+        self.assertIn("a field is out of range", self.refused(3, "show", self.put("damaged", flip(key, -1, 0x80))))
+        for data, told in ((self.BAD, b'field 6, hertz, is "55"'),
+                           (self.key_like_line(), b"\n  field 2, country, is ")):
+            ran = self.run_in("show", self.put("bad", data))
+            self.assertEqual((ran.returncode, ran.stdout), (5, b"A line, not signed.\n"))
+            self.assertIn(told, ran.stderr)
+
+    def test_line_in_the_place_of_a_key(self):
+        sign = "sign", "private", "line", "out", "--key"
+        said = self.troubled(WRONG_USAGE, *sign, "good")
+        self.assertEqual(said, "gridprofile sign: KEY is a profile line\n"
+                         "  What to do: see whether files are exchanged.\n")
+        self.assertIn("KEY is not the public key of PRIVATE", self.troubled(WRONG_USAGE, *sign, "bad"))
+        self.put("odd", LINE_77[:-1] + b"\xff")
+        for number, name in ((4, "good"), (4, "bad"), (3, "odd")):
+            for words in (["verify", name, "package"], ["load", "store", name, "package", "XA", "B"]):
+                said = self.refused(number, *words)
+                self.assertIn(f"\n  KEY ({name}) begins as a profile line does; see whether files are exchanged\n",
+                              said)
+                self.assertEqual("\n  " + fingerprint(self.get(name)) in said, number == 4)
+        for number, at, bit in ((4, 0, 1), (3, -1, 0x80)):
+            self.put("odd", flip(self.get("key"), at, bit))
+            self.assertNotIn("profile line does", self.refused(number, "verify", "odd", "package"))
+
+    def test_key_in_the_place_of_a_line(self):
+        said = self.refused(5, "sign", "private", "key", "out")
+        self.assertIn(f"\n  {NO_LINE}, but has the size of a public key of category 1\n", said)
+        self.assertEqual(len(said.splitlines()), 3, said)
+        ended = self.get("key")[:-1].replace(b"\n", b"x") + b"\n"
+        shown, said = self.warned("preview", self.put("ended", ended))
+        self.assertEqual((shown, said), (b"COUNTRY,CLASS,SERIAL\n",
+                                         "gridprofile preview: 1 of 1 lines skipped; the first is line 1:\n"
+                                         f"  {NO_LINE}, but has the size of a public key of category 1\n"))
+        self.key_like_line()
+        said = self.refused(5, "sign", "private", "key", "out")
+        self.assertIn("\n  field 2, country, is ", said)
+        self.assertNotIn("public key", said)
+
+    def test_line_in_its_own_place(self):
+        self.done("sign", "private", "good", "out")
+        self.done("verify", "key", "out")
+        self.done("load", "store", "key", "out", "XA", "D")
+        self.assertEqual(self.done("lookup", "store", "XA", "D"), LINE_77)
+        self.assertEqual(self.done("preview", "good"), b"COUNTRY,CLASS,SERIAL\nXA,D,123\n")
+        self.assertIn('field 6, hertz, is "55"', self.refused(5, "sign", "private", "bad", "out2"))
+
+    def test_in_the_place_of_other_files(self):
+        given = ["--key", "key", "--given-master-seed", "master", "--given-salt", "salt"]
+        for role, *words in (("PRIVATE", "key", "?", "out"), ("PRIVATE", "sign", "?", "line", "out"),
+                             ("MASTER", "sign", "private", "line", "out", *given[:3], "?", *given[4:]),
+                             ("SALT", "sign", "private", "line", "out", *given[:5], "?"),
+                             ("PACKAGE", "verify", "key", "?"), ("PACKAGE", "load", "store", "key", "?", "XA", "B"),
+                             ("STORE", "load", "?", "key", "package", "XA", "B"), ("STORE", "lookup", "?", "XA", "B"),
+                             ("KEY", "verify", "?", "package", *THIRD.option())):
+            for name, kind in (("key", KINDS[77]), ("good", "a profile line"), ("bad", "a profile line")):
+                said = self.refused(1, *(name if word == "?" else word for word in words))
+                self.assertIn(f"  {role} ({name}) has 77 bytes, the size of {kind}; it must have ", said)
+
+    def test_advice_on_the_category(self):
+        """A key tells its category, a line none."""
+        for name, advice in (("key", "`--category 1` is for files of these sizes; "), ("good", ORDER), ("bad", ORDER)):
+            said = self.refused(1, "verify", name, "package", *THIRD.option())
+            self.assertIn(f"\n  What to do: {advice}", said)
 
 
 class Option(Case):
@@ -377,8 +486,10 @@ class Option(Case):
                              ("MASTER   master seed, secret: {} bytes at category 1, {} at 3, {} at 5", "master")):
             self.assertIn("\n  " + words.format(*(getattr(one, sizes) for one in CATEGORIES)) + "\n", shown)
         packages = "\n  PACKAGE  signature and line: {} to {} bytes at category 1, {} to {} at 3, {} to {} at 5\n"
-        bounds = [one.signature + more for one in CATEGORIES for more in (42, 72)]
+        bounds = [one.signature + more for one in CATEGORIES for more in (LEAST_LINE, MOST_LINE)]
         self.assertIn(packages.format(*bounds), shown.replace(",\n           ", ", "))
+        self.assertIn(f"\n  LINE     one profile line, {LEAST_LINE} to {MOST_LINE} bytes with its line feed ", shown)
+        self.assertIn(f"\n  STORE    16 profiles and a checksum, {STORE} bytes; {IMAGE} without the checksum\n", shown)
         for line in shown.splitlines():
             self.assertLessEqual(len(line), 100)
 

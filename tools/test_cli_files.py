@@ -11,7 +11,7 @@ import time
 import unittest
 
 from cli_case import (CATEGORIES, DAMAGED_STORE, FILE_TROUBLE, FIRST, GIVEN, IMAGE, LINE, PRIVATE, PROGRAM,
-                      WRONG_USAGE, Case, line_of, sealed)
+                      STORE, WRONG_USAGE, Case, line_of, sealed)
 
 NOBODY = 65534
 
@@ -104,7 +104,7 @@ class Streams(Case):
 
     def test_refusal_whose_output_cannot_be_written(self):
         """The refusal says more."""
-        self.put("bad", bytes(1056))
+        self.put("bad", bytes(STORE))
         with open("/dev/full", "wb") as full:
             self.assertEqual(self.run_in("show", "bad", stdout=full).returncode, DAMAGED_STORE)
 
@@ -210,7 +210,7 @@ class Outputs(Case):
         for words in self.writers("out")[:4]:
             self.put("out", b"old" * 30_000)
             self.done(*words, "--force")
-            self.assertIn(len(self.get("out")), (77, 19152 + len(LINE), 1056))
+            self.assertIn(len(self.get("out")), (77, 19152 + len(LINE), STORE))
 
     def test_full_disk_leaves_no_file(self):
         for words in self.writers("out")[:4]:

@@ -13,7 +13,7 @@ import subprocess
 import threading
 import time
 
-from cli_case import (ARCHIVE, CATEGORIES, FIFTH, FILE_TROUBLE, FIRST, GIVEN, IMAGE, KINDS, LINE, LINE_C,
+from cli_case import (ARCHIVE, CATEGORIES, FIFTH, FILE_TROUBLE, FIRST, GIVEN, IMAGE, KINDS, LINE, LINE_77, LINE_C,
                       NO_RANDOM_BYTES, PRIVATE, PROGRAM, ROOT, SALT, SELF_CHECK_FAILED, SIGNATURE, STORE, WRONG_USAGE,
                       Case, fingerprint, line_of, sealed, shake)
 from test_cli_files import HIDDEN, NOBODY, READS_INPUT, WRITES_OUTPUT, Memory, call_of, hidden, wait_for
@@ -587,8 +587,10 @@ class Exchanged(Case):
                 self.assertIn("KEY is not the public key of PRIVATE", self.troubled(WRONG_USAGE, *words))
 
     def test_any_order_of_arguments_spares_seeds_keys_and_stores(self):
-        """Every command with every choice of files: no seed, key or store is lost, and no seed stands elsewhere."""
-        self.package(private=HIDDEN[0], master=HIDDEN[1]), self.put("store", EMPTY)
+        """Every command with every choice of files: no seed, key or store is lost, and no seed stands elsewhere. The
+        line has the size of a key."""
+        self.package(LINE_77, private=HIDDEN[0], master=HIDDEN[1]), self.put("store", EMPTY)
+        self.assertEqual(len(self.get("line")), FIRST.key)
         self.try_every_order((("sign", 3), ("key", 2), ("new-key", 2), ("new-store", 1)), ((), ("--force",)))
 
     def test_any_order_of_arguments_at_category_5(self):
@@ -642,15 +644,17 @@ class Existing(Case):
             os.remove(self.path(name))
 
     def test_seeds_keys_and_stores_are_never_replaced_by_something_else(self):
-        """Those of every category, whichever is asked for; a line may have the size of a seed."""
-        own = {"key": (77, 115, 153), "new key": (77, 115, 153), "package": (), "store": (1024, 1056)}
+        """Those of every category, whichever is asked for; a line may have the size of a seed or of a key. A new store
+        replaces one of the former layout too."""
+        own = {"key": (77, 115, 153), "new key": (77, 115, 153), "package": (), "store": (1024, 1056, 1216, 1248)}
+        lines = {64: line_of(serial=1234567890), 77: LINE_77}
         for category in CATEGORIES:
             for kind, words in self.writers(category).items():
-                for size in (16, 24, 32, 48, 64, 77, 115, 153, 1024, 1056):
-                    self.put("out", line_of(serial=1234567890) if size == 64 else bytes(size))
+                for size in (16, 24, 32, 48, 64, 77, 115, 153, 1024, 1056, 1216, 1248):
+                    old = self.get(self.put("out", lines.get(size, bytes(size))))
                     if size in own[kind]:
                         self.done(*words, "--force")
-                        self.assertNotEqual(self.get("out"), bytes(size))
+                        self.assertNotEqual(self.get("out"), old)
                         self.drop("fresh")
                     else:
                         said = self.troubled(FILE_TROUBLE, *words, "--force")

@@ -60,24 +60,40 @@ static void hashing(const char *prefix)
 
 static const char line[] = "GP1,XA,B,12,230,50,1150,100,800,1500,1500,100,-2500,100\n";
 
-/* A line read and written again. */
-static void lines(const char *prefix)
+/* The same with a rate point and a greater serial. */
+static const char rate_line[] =
+    "GP2,XA,B,13,230,50,1150,100,800,1500,1500,100,-2500,100,2000,500\n";
+
+/* A line read and written again: its image has this serial, and ends with this rate point. */
+static void one_line(const char *prefix, const char *text, size_t text_len, uint8_t serial,
+                     const uint8_t *rate)
 {
     uint8_t profile[GRIDPROFILE_PROFILE_IMAGE_BYTES], out[GRIDPROFILE_LINE_MAX_BYTES];
-    const uint8_t head[5] = {1, 'X', 'A', 'B', 12};
+    const uint8_t head[5] = {1, 'X', 'A', 'B', serial};
     size_t length = 0;
-    int answer = gridprofile_read_line((const uint8_t *)line, sizeof line - 1, profile, sizeof profile);
+    int answer = gridprofile_read_line((const uint8_t *)text, text_len, profile, sizeof profile);
     expect(prefix, "read_line", answer, GRIDPROFILE_DONE, profile, head, sizeof head);
+    expect(prefix, "read_line's rate point", answer, GRIDPROFILE_DONE,
+           profile + GRIDPROFILE_RATE_OFFSET, rate, GRIDPROFILE_TRIP_BYTES);
     answer = gridprofile_write_line(profile, sizeof profile, out, sizeof out, &length);
-    expect(prefix, "write_line", answer, GRIDPROFILE_DONE, out, (const uint8_t *)line, length);
-    expect_length(length, sizeof line - 1);
+    expect(prefix, "write_line", answer, GRIDPROFILE_DONE, out, (const uint8_t *)text, length);
+    expect_length(length, text_len);
 }
 
-/* The listing of two lines, in either order. */
+static void lines(const char *prefix)
+{
+    static const uint8_t absent[GRIDPROFILE_TRIP_BYTES] = {GRIDPROFILE_RATE_ABSENT};
+    static const uint8_t present[GRIDPROFILE_TRIP_BYTES] = {
+        GRIDPROFILE_RATE_PRESENT, 0, 0, 0, 0xD0, 0x07, 0, 0, 0xF4, 0x01, 0, 0};
+    one_line(prefix, line, sizeof line - 1, 12, absent);
+    one_line(prefix, rate_line, sizeof rate_line - 1, 13, present);
+}
+
+/* The listing of two lines, one of each kind, in either order. */
 static void listing(const char *prefix)
 {
     static const char input[] = "GP1,XA,B,12,230,50,1150,100,800,1500,1500,100,-2500,100\n"
-                                "GP1,XA,C,5,400,50,1100,200,850,1500,1500,100,-2500,100\n";
+                                "GP2,XA,C,5,400,50,1100,200,850,1500,1500,100,-2500,100,2000,500\n";
     static const char one[] = "COUNTRY,CLASS,SERIAL\nXA,B,12\nXA,C,5\n";
     static const char other[] = "COUNTRY,CLASS,SERIAL\nXA,C,5\nXA,B,12\n";
     uint8_t out[GRIDPROFILE_LISTING_BYTES];
@@ -209,28 +225,43 @@ static void signing(const struct category *c)
     expect(c->prefix, "verify_round", answer, GRIDPROFILE_MISMATCH, key, key, 0);
 }
 
-/* A package made, loaded, looked up, and refused the second time. */
-static void loading(const struct category *c)
+static const uint8_t country[2] = {'X', 'A'};
+
+/* The package of a line made, loaded, looked up, and refused the second time. */
+static void load_line(const struct category *c, uint8_t *store, const char *text, size_t text_len)
 {
-    static const uint8_t country[2] = {'X', 'A'};
-    uint8_t store[GRIDPROFILE_STORE_IMAGE_BYTES] = {0}, out[GRIDPROFILE_LINE_MAX_BYTES];
-    const uint8_t *text = (const uint8_t *)line;
+    const uint8_t *wanted = (const uint8_t *)text;
+    uint8_t out[GRIDPROFILE_LINE_MAX_BYTES];
     size_t length = 0, written = 0;
     int answer = c->make_package(zeros, c->private_seed, zeros, c->master_seed, zeros, c->salt,
-                                 text, sizeof line - 1, package, c->package_max, &length);
+                                 wanted, text_len, package, c->package_max, &length);
     expect(c->prefix, "make_package", answer, GRIDPROFILE_DONE, package, zeros, c->salt);
-    expect_length(length, c->signature + sizeof line - 1);
-    (void)c->make_key(zeros, c->private_seed, key, c->key);
-    answer = c->load(store, sizeof store, key, c->key, package, length, country, 2, 'B');
+    expect_length(length, c->signature + text_len);
+    answer = c->load(store, GRIDPROFILE_STORE_IMAGE_BYTES, key, c->key, package, length, country, 2,
+                     'B');
     expect(c->prefix, "load", answer, GRIDPROFILE_DONE, key, key, 0);
-    answer = gridprofile_lookup(store, sizeof store, country, 2, 'B', out, sizeof out, &written);
-    expect("gridprofile_", "lookup", answer, GRIDPROFILE_DONE, out, text, sizeof line - 1);
-    expect_length(written, sizeof line - 1);
-    answer = c->load(store, sizeof store, key, c->key, package, length, country, 2, 'B');
+    answer = gridprofile_lookup(store, GRIDPROFILE_STORE_IMAGE_BYTES, country, 2, 'B', out,
+                                sizeof out, &written);
+    expect("gridprofile_", "lookup", answer, GRIDPROFILE_DONE, out, wanted, text_len);
+    expect_length(written, text_len);
+    answer = c->load(store, GRIDPROFILE_STORE_IMAGE_BYTES, key, c->key, package, length, country, 2,
+                     'B');
     expect(c->prefix, "load again", answer, GRIDPROFILE_OLD_SERIAL, key, key, 0);
-    answer = gridprofile_lookup(store, sizeof store, country, 2, 'C', out, sizeof out, &written);
-    expect("gridprofile_", "lookup of another class", answer, GRIDPROFILE_NOT_STORED, out, text,
-           written);
+}
+
+/* The second line replaces the first, and nothing is stored for another class. */
+static void loading(const struct category *c)
+{
+    uint8_t store[GRIDPROFILE_STORE_IMAGE_BYTES] = {0}, out[GRIDPROFILE_LINE_MAX_BYTES] = {0};
+    size_t written = 0;
+    (void)c->make_key(zeros, c->private_seed, key, c->key);
+    load_line(c, store, line, sizeof line - 1);
+    load_line(c, store, rate_line, sizeof rate_line - 1);
+    int answer =
+        gridprofile_lookup(store, sizeof store, country, 2, 'C', out, sizeof out, &written);
+    expect("gridprofile_", "lookup of another class", answer, GRIDPROFILE_NOT_STORED, out, zeros,
+           sizeof out);
+    expect_length(written, 0);
 }
 
 int main(void)

@@ -1,6 +1,7 @@
 /* How much stack the entries use: each runs on a stack of its own that was filled with a pattern, and the bytes that no
- * longer hold it are counted. A job that does nothing gives the part that is not the library's. A line for each entry:
- * its name and the bytes. Linked with -z now: else the linker's work at the first memcpy would be counted too. */
+ * longer hold it are counted. A job that does nothing gives the part that is not the library's. The jobs run with a
+ * usual line and then with the longest one, which has a rate point; the greater use counts. A line for each entry: its
+ * name and the bytes. Linked with -z now: else the linker's work at the first memcpy would be counted too. */
 #include <stdint.h>
 #include <stdio.h>
 #include <stdlib.h>
@@ -14,9 +15,16 @@
 #define STACK_BYTES (1 << 20)
 #define PATTERN 0xA5
 
-static const char text[] = "GP1,XA,B,12,230,50,1150,100,800,1500,1500,100,-2500,100\n";
+static const char usual[] = "GP1,XA,B,12,230,50,1150,100,800,1500,1500,100,-2500,100\n";
+static const char longest[] = "GP2,XA,D,4294967295,1000,60,1500,60000,999,60000,5000,60000,-5000,60000,10000,60000\n";
+_Static_assert(sizeof longest - 1 == GRIDPROFILE_LINE_MAX_BYTES, "no line is longer");
+
+/* The line that the jobs run with. Both are for the country `XA`, and byte 7 of a line is its class. */
+static const uint8_t *line;
+static size_t line_len;
 static const uint8_t country[2] = {'X', 'A'};
-static uint8_t line[sizeof text - 1], message[72], profile[GRIDPROFILE_PROFILE_IMAGE_BYTES];
+#define CLASS line[7]
+static uint8_t message[GRIDPROFILE_LINE_MAX_BYTES], profile[GRIDPROFILE_PROFILE_IMAGE_BYTES];
 static uint8_t found[GRIDPROFILE_LINE_MAX_BYTES], listing[GRIDPROFILE_LISTING_BYTES];
 static uint8_t numbers[GRIDPROFILE_PLACES];
 static uint8_t packed_values[GRIDPROFILE_PACKED_VALUES_BYTES(GRIDPROFILE_PLACES)];
@@ -65,10 +73,10 @@ BUFFERS(category5_, CATEGORY5_)
        (ALL(c##lent.key), ALL(c##lent.salt), 1, ALL(c##lent.digest), ALL(c##lent.digest), 1, ALL(c##lent.digest), 0,   \
         ALL(c##lent.reply)))                                                                                           \
     DO(c, make_package, 0,                                                                                             \
-       (ALL(c##lent.private_seed), ALL(c##lent.master_seed), ALL(c##lent.salt), ALL(line), ALL(c##lent.package),       \
+       (ALL(c##lent.private_seed), ALL(c##lent.master_seed), ALL(c##lent.salt), line, line_len, ALL(c##lent.package),  \
         &c##lent.package_len))                                                                                         \
     DO(c, load, 0,                                                                                                     \
-       (ALL(c##lent.store), ALL(c##lent.key), c##lent.package, c##lent.package_len, ALL(country), 'B'))
+       (ALL(c##lent.store), ALL(c##lent.key), c##lent.package, c##lent.package_len, ALL(country), CLASS))
 
 /* Those that no category decides; the lookup is in what the load of category 1 stored. */
 #define OF_NONE(DO)                                                                                                    \
@@ -76,10 +84,10 @@ BUFFERS(category5_, CATEGORY5_)
     DO(, unpack_values, 0, (ALL(packed_values), ALL(numbers)))                                                         \
     DO(, pack_exponents, 0, (ALL(numbers), ALL(packed_exponents)))                                                     \
     DO(, unpack_exponents, 0, (ALL(packed_exponents), ALL(numbers)))                                                   \
-    DO(, read_line, 0, (ALL(line), ALL(profile)))                                                                      \
+    DO(, read_line, 0, (line, line_len, ALL(profile)))                                                                 \
     DO(, write_line, 0, (ALL(profile), ALL(found), &length))                                                           \
-    DO(, preview, 0, (ALL(line), ALL(listing), &length))                                                               \
-    DO(, lookup, 0, (ALL(lent.store), ALL(country), 'B', ALL(found), &length))
+    DO(, preview, 0, (line, line_len, ALL(listing), &length))                                                          \
+    DO(, lookup, 0, (ALL(lent.store), ALL(country), CLASS, ALL(found), &length))
 
 #define JOB(c, name, answer, call)                                                                                     \
     static void c##name(void)                                                                                          \
@@ -118,17 +126,40 @@ static size_t used(void (*job)(void))
     return sizeof stack - untouched;
 }
 
-#define PRINT(c, name, answer, call) printf(#c #name " %zu\n", used(c##name) - base);
+#define ROW(c, name, answer, call) {#c #name, c##name, 0},
+
+/* In the order in which they run and are printed; each with the most bytes that it used. */
+static struct {
+    const char *name;
+    void (*job)(void);
+    size_t most;
+} jobs[] = {
+    {"shake128", shake128, 0},
+    {"shake256", shake256, 0},
+    OF_CATEGORY(ROW, )
+    OF_NONE(ROW)
+    OF_CATEGORY(ROW, category3_)
+    OF_CATEGORY(ROW, category5_)
+};
+#define JOBS (sizeof jobs / sizeof *jobs)
+
+static void run_all(const char *text)
+{
+    line = (const uint8_t *)text;
+    line_len = strlen(text);
+    for (size_t at = 0; at < JOBS; at++) {
+        size_t bytes = used(jobs[at].job);
+        if (bytes > jobs[at].most)
+            jobs[at].most = bytes;
+    }
+}
 
 int main(void)
 {
     size_t base = used(nothing);
-    memcpy(line, text, sizeof line);
-    printf("shake128 %zu\n", used(shake128) - base);
-    printf("shake256 %zu\n", used(shake256) - base);
-    OF_CATEGORY(PRINT, )
-    OF_NONE(PRINT)
-    OF_CATEGORY(PRINT, category3_)
-    OF_CATEGORY(PRINT, category5_)
+    run_all(usual);
+    run_all(longest);
+    for (size_t at = 0; at < JOBS; at++)
+        printf("%s %zu\n", jobs[at].name, jobs[at].most - base);
     return 0;
 }

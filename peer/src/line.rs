@@ -1,14 +1,17 @@
-//! Profiles, their lines, and the image of 64 bytes that C holds.
+//! Profiles, their lines, and the image of 76 bytes that C holds.
 
 use crate::refusal::{demand, Refusal, BAD_PROFILE, BAD_SIZE};
 use std::ops::RangeInclusive;
 
-/// The shortest and the longest line.
+/// The shortest line, which has no rate point, and the longest, which has one.
 pub const SHORTEST: usize = 42;
-pub const LONGEST: usize = 72;
+pub const LONGEST: usize = 84;
 
 /// Bytes of an image.
-pub const IMAGE: usize = 64;
+pub const IMAGE: usize = 76;
+
+/// Where the rate point stands in an image.
+pub const RATE: usize = 64;
 
 /// What a trip point's limit is measured in.
 #[derive(Clone, Copy, PartialEq, Eq, Debug, PartialOrd, Ord)]
@@ -28,6 +31,13 @@ pub struct Trip {
     pub delay: u32,
 }
 
+/// A trip point for the rate of change of frequency, in millihertz per second.
+#[derive(Clone, Copy, PartialEq, Eq, Debug, PartialOrd, Ord)]
+pub struct Rate {
+    pub limit: u32,
+    pub delay: u32,
+}
+
 /// Any profile, also one that breaks a rule.
 #[derive(Clone, Copy, PartialEq, Eq, Debug, PartialOrd, Ord)]
 pub struct Profile {
@@ -38,6 +48,8 @@ pub struct Profile {
     pub hertz: u32,
     /// Over-voltage, under-voltage, over-frequency, under-frequency.
     pub trips: [Trip; 4],
+    /// A line with this point is a `GP2` line, one without it a `GP1` line.
+    pub rate: Option<Rate>,
 }
 
 pub const DELAYS: RangeInclusive<u32> = 20..=60_000;
@@ -45,6 +57,9 @@ pub const DELAYS: RangeInclusive<u32> = 20..=60_000;
 /// Kind and limits of each trip point, in the order of the line.
 pub const TRIPS: [(Kind, RangeInclusive<u32>); 4] =
     [(Kind::Share, 1_001..=1_500), (Kind::Share, 1..=999), (Kind::Above, 1..=5_000), (Kind::Below, 1..=5_000)];
+
+/// Limits of a rate point.
+pub const RATES: RangeInclusive<u32> = 100..=10_000;
 
 /// The class that nominal volts have.
 pub fn class_of(volts: u32) -> Option<u8> {
@@ -67,6 +82,12 @@ impl Trip {
     }
 }
 
+impl Rate {
+    fn is_valid(&self) -> bool {
+        RATES.contains(&self.limit) && DELAYS.contains(&self.delay)
+    }
+}
+
 impl Profile {
     pub fn is_valid(&self) -> bool {
         is_country(&self.country)
@@ -74,15 +95,18 @@ impl Profile {
             && class_of(self.volts) == Some(self.class)
             && [50, 60].contains(&self.hertz)
             && self.trips.iter().zip(&TRIPS).all(|(trip, rule)| trip.obeys(rule))
+            && self.rate.iter().all(Rate::is_valid)
     }
 
     /// The line, as the rules write it; for a profile that breaks none of them it is the one that means it.
     fn line(&self) -> String {
-        let Profile { country: [a, b], class, serial, volts, hertz, trips } = *self;
-        let head = format!("GP1,{}{},{},{serial},{volts},{hertz}", char::from(a), char::from(b), char::from(class));
+        let Profile { country: [a, b], class, serial, volts, hertz, trips, rate } = *self;
+        let tag = if rate.is_some() { "GP2" } else { "GP1" };
+        let head = format!("{tag},{}{},{},{serial},{volts},{hertz}", char::from(a), char::from(b), char::from(class));
         let sign = |kind| if kind == Kind::Below { "-" } else { "" };
         let tail: String = trips.iter().map(|t| format!(",{}{},{}", sign(t.kind), t.limit, t.delay)).collect();
-        head + &tail + "\n"
+        let end = rate.map_or(String::new(), |r| format!(",{},{}", r.limit, r.delay));
+        head + &tail + &end + "\n"
     }
 }
 
@@ -100,7 +124,12 @@ fn parsed(line: &[u8]) -> Option<Profile> {
     let text = std::str::from_utf8(line).ok()?.strip_suffix('\n')?;
     let fields: Vec<&str> = text.split(',').collect();
     let [tag, country, class, serial, volts, hertz, ref rest @ ..] = fields[..] else { return None };
-    if tag != "GP1" || rest.len() != 8 || class.len() != 1 {
+    let rate = match (tag, rest.len()) {
+        ("GP1", 8) => None,
+        ("GP2", 10) => Some(Rate { limit: number(rest[8])?, delay: number(rest[9])? }),
+        _ => return None,
+    };
+    if class.len() != 1 {
         return None;
     }
     let mut trips = [Trip { kind: Kind::Share, limit: 0, delay: 0 }; 4];
@@ -111,7 +140,7 @@ fn parsed(line: &[u8]) -> Option<Profile> {
     }
     let (serial, volts, hertz) = (number(serial)?, number(volts)?, number(hertz)?);
     let country = country.as_bytes().try_into().ok()?;
-    Some(Profile { country, class: class.as_bytes()[0], serial, volts, hertz, trips })
+    Some(Profile { country, class: class.as_bytes()[0], serial, volts, hertz, trips, rate })
 }
 
 /// Reads a line: 1 where its length is none of a line, 5 where it breaks a rule.
@@ -126,7 +155,8 @@ pub fn write_line(profile: &Profile) -> Result<Vec<u8>, Refusal> {
     Ok(profile.line().into_bytes())
 }
 
-/// The profile that an image means: used (not looked at), country, class, then numbers of four bytes.
+/// The profile that an image means: used (not looked at), country, class, then numbers of four bytes. A rate point's
+/// first number says whether it is there; where it is not, the other two are not looked at.
 pub fn meaning(image: &[u8; IMAGE]) -> Profile {
     let word = |at: usize| u32::from_le_bytes(image[at..at + 4].try_into().expect("four bytes"));
     let kind = |number: u32| match number {
@@ -142,6 +172,7 @@ pub fn meaning(image: &[u8; IMAGE]) -> Profile {
         volts: word(8),
         hertz: word(12),
         trips: [trip(16), trip(28), trip(40), trip(52)],
+        rate: (word(RATE) != 0).then(|| Rate { limit: word(RATE + 4), delay: word(RATE + 8) }),
     }
 }
 
@@ -149,9 +180,10 @@ pub fn meaning(image: &[u8; IMAGE]) -> Profile {
 pub fn image(p: &Profile) -> [u8; IMAGE] {
     let mut words = vec![p.serial, p.volts, p.hertz];
     p.trips.iter().for_each(|t| words.extend([t.kind as u32, t.limit, t.delay]));
+    words.extend(p.rate.map_or([0; 3], |r| [1, r.limit, r.delay]));
     let mut bytes = vec![1, p.country[0], p.country[1], p.class];
     words.into_iter().for_each(|word| bytes.extend(word.to_le_bytes()));
-    bytes.try_into().expect("4 bytes and 15 numbers")
+    bytes.try_into().expect("4 bytes and 18 numbers")
 }
 
 pub mod cases;

@@ -40,7 +40,7 @@ pub struct Store(Vec<Profile>);
 impl Store {
     /// What an image means: a slot is used where its first byte is not 0.
     pub fn from_image(bytes: &[u8]) -> Store {
-        let slots = bytes.chunks_exact(IMAGE).map(|slot| <&[u8; IMAGE]>::try_from(slot).expect("64 bytes"));
+        let slots = bytes.chunks_exact(IMAGE).map(|slot| <&[u8; IMAGE]>::try_from(slot).expect("an image"));
         Store(slots.filter(|slot| slot[0] != 0).map(meaning).collect())
     }
 

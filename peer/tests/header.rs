@@ -1,7 +1,7 @@
 //! The constants of the C headers are the sizes and numbers of the independent program.
 
 use peer::bits::{packed_size, EXPONENT, VALUE};
-use peer::line::{self, Kind, Profile, Trip};
+use peer::line::{self, Kind, Profile, Rate, Trip};
 use peer::preview;
 use peer::refusal;
 use peer::sizes::{Sizes, CATEGORY_1, CATEGORY_3, CATEGORY_5};
@@ -25,15 +25,25 @@ fn constants(header: &str) -> BTreeMap<String, usize> {
 /// A profile whose image has no byte but that of a used slot.
 const NOTHING: Profile = {
     let trip = Trip { kind: Kind::Share, limit: 0, delay: 0 };
-    Profile { country: [0; 2], class: 0, serial: 0, volts: 0, hertz: 0, trips: [trip; 4] }
+    Profile { country: [0; 2], class: 0, serial: 0, volts: 0, hertz: 0, trips: [trip; 4], rate: None }
 };
+
+/// Where the images of two profiles first differ.
+fn differ_at(one: &Profile, other: &Profile) -> usize {
+    let mut pairs = line::image(one).into_iter().zip(line::image(other));
+    pairs.position(|(old, new)| old != new).expect("a field of the image")
+}
 
 /// Where the image of a profile first differs, when the profile is changed so.
 fn changes_at(change: impl Fn(&mut Profile)) -> usize {
     let mut profile = NOTHING;
     change(&mut profile);
-    let mut pairs = line::image(&NOTHING).into_iter().zip(line::image(&profile));
-    pairs.position(|(old, new)| old != new).expect("a field of the image")
+    differ_at(&NOTHING, &profile)
+}
+
+/// A profile with nothing but a rate point.
+fn with_rate(limit: u32, delay: u32) -> Profile {
+    Profile { rate: Some(Rate { limit, delay }), ..NOTHING }
 }
 
 /// Where the trip points of an image begin.
@@ -55,6 +65,7 @@ fn offsets() -> Vec<(&'static str, usize)> {
         ("UNDER_VOLTAGE_OFFSET", under_voltage),
         ("OVER_FREQUENCY_OFFSET", over_frequency),
         ("UNDER_FREQUENCY_OFFSET", under_frequency),
+        ("RATE_OFFSET", differ_at(&NOTHING, &with_rate(0, 0))),
         ("TRIP_BYTES", under_voltage - over_voltage),
         ("TRIP_KIND_OFFSET", changes_at(|p| p.trips[0].kind = Kind::Below) - over_voltage),
         ("TRIP_LIMIT_OFFSET", changes_at(|p| p.trips[0].limit = 1) - over_voltage),
@@ -62,6 +73,8 @@ fn offsets() -> Vec<(&'static str, usize)> {
         ("KIND_SHARE", Kind::Share as usize),
         ("KIND_ABOVE", Kind::Above as usize),
         ("KIND_BELOW", Kind::Below as usize),
+        ("RATE_ABSENT", usize::from(line::image(&NOTHING)[line::RATE])),
+        ("RATE_PRESENT", usize::from(line::image(&with_rate(0, 0))[line::RATE])),
     ]
 }
 
@@ -128,6 +141,16 @@ fn expected() -> BTreeMap<String, usize> {
 #[test]
 fn constants_of_the_header() {
     assert_eq!(constants(HEADER), expected());
+}
+
+/// The rate point has its limit and its delay where every trip point has them, and is the last.
+#[test]
+fn numbers_of_the_rate_point() {
+    let [rate, bytes] = ["RATE_OFFSET", "TRIP_BYTES"].map(|name| constants(HEADER)[name]);
+    let [limit, delay] = ["TRIP_LIMIT_OFFSET", "TRIP_DELAY_OFFSET"].map(|name| rate + constants(HEADER)[name]);
+    assert_eq!(differ_at(&with_rate(0, 0), &with_rate(1, 0)), limit);
+    assert_eq!(differ_at(&with_rate(0, 0), &with_rate(0, 1)), delay);
+    assert_eq!(rate + bytes, constants(HEADER)["PROFILE_IMAGE_BYTES"]);
 }
 
 /// Beside its guard, a category's header defines its sizes and nothing else. The longest message is that

@@ -4,7 +4,8 @@
 
 #include <string.h>
 
-enum { FIELDS = 14, CLASS_FIELD = 2, VOLTS_FIELD = 4 };
+/* All that there are; a line without a rate point ends before the last two. */
+enum { FIELDS = 16, FIELDS_WITHOUT_RATE = 14, CLASS_FIELD = 2, VOLTS_FIELD = 4 };
 
 /* More of a field is not shown, so that one field cannot fill the screen. */
 enum { SHOWN = 24 };
@@ -13,6 +14,16 @@ enum { SHOWN = 24 };
 enum { TELLING_MARKS = 10 };
 
 enum form { TAG, TWO_LETTERS, ONE_LETTER, NUMBER, NEGATIVE, EITHER };
+
+/* The kinds of line: the tag, and the number of fields that it asks for. */
+struct tag {
+    const char *text;
+    size_t fields;
+};
+
+enum { TAG_BYTES = 3 };
+
+static const struct tag tags[] = {{"GP1", FIELDS_WITHOUT_RATE}, {"GP2", FIELDS}};
 
 struct rule {
     const char *name;
@@ -24,7 +35,7 @@ struct rule {
 #define DELAY_RULE(name) {name " delay", NUMBER, 20, 60000, "20 to 60000 ms"}
 
 static const struct rule rules[FIELDS] = {
-    {"tag", TAG, 0, 0, "GP1"},
+    {"tag", TAG, 0, 0, "GP1 or GP2"},
     {"country", TWO_LETTERS, 0, 0, "two letters A to Z"},
     {"class", ONE_LETTER, 0, 0,
      "A (100 to 139 V), B (140 to 259), C (260 to 519) or D (520 to 1000)"},
@@ -39,6 +50,8 @@ static const struct rule rules[FIELDS] = {
     DELAY_RULE("over-frequency"),
     {"under-frequency", NEGATIVE, 1, 5000, "-5000 to -1 mHz"},
     DELAY_RULE("under-frequency"),
+    {"rate of change", NUMBER, 100, 10000, "100 to 10000 mHz per second"},
+    DELAY_RULE("rate of change"),
 };
 
 struct part {
@@ -60,6 +73,21 @@ struct line {
 static int begins(struct part part, const char *bytes, size_t count)
 {
     return part.length >= count && memcmp(part.at, bytes, count) == 0;
+}
+
+/* The kind of line whose tag stands at the front, or NULL. */
+static const struct tag *tag_before(struct part part)
+{
+    for (size_t at = 0; at < COUNT(tags); at++)
+        if (begins(part, tags[at].text, TAG_BYTES))
+            return &tags[at];
+    return NULL;
+}
+
+/* The kind of line that a tag field names, or NULL. */
+static const struct tag *find_tag(struct part part)
+{
+    return part.length == TAG_BYTES ? tag_before(part) : NULL;
 }
 
 static void cut_fields(struct line *line)
@@ -125,7 +153,7 @@ static int is_meant_as_line(struct part text)
     size_t marks = 0;
     for (size_t at = 0; at < text.length; at++)
         marks += memchr(",;\t", text.at[at], 3) != NULL ? 1 : 0;
-    return marks >= TELLING_MARKS || begins(text, "GP1", 3);
+    return marks >= TELLING_MARKS || tag_before(text) != NULL;
 }
 
 /* Of any number of digits; it stops at the first value that is too great for every field. */
@@ -145,7 +173,7 @@ static int is_between(uint8_t byte, char first, char last)
 static int letters_fit(enum form form, struct part part)
 {
     if (form == TAG)
-        return part.length == 3 && begins(part, "GP1", 3);
+        return find_tag(part) != NULL;
     if (form == ONE_LETTER)
         return part.length == 1 && is_between(part.at[0], 'A', 'D');
     return part.length == 2 && is_between(part.at[0], 'A', 'Z') && is_between(part.at[1], 'A', 'Z');
@@ -224,11 +252,18 @@ static int class_differs(const struct line *line)
            letter.at[0] != class_of((int)value_of(volts));
 }
 
-/* The first field that breaks a rule, from 0: one that is missing too, or FIELDS. */
+/* How many fields the tag asks for. Another tag is the first fault, so that it does not matter then. */
+static size_t fields_of(const struct line *line)
+{
+    const struct tag *tag = find_tag(line->fields[0]);
+    return tag != NULL ? tag->fields : FIELDS;
+}
+
+/* The first field that breaks a rule, from 0: one that is missing too, or as many as there must be. */
 static size_t first_broken(const struct line *line)
 {
-    size_t field = 0;
-    while (field < FIELDS && trouble(field, line->fields[field]) == NULL &&
+    size_t field = 0, asked = fields_of(line);
+    while (field < asked && trouble(field, line->fields[field]) == NULL &&
            !(field == CLASS_FIELD && class_differs(line)))
         field++;
     return field;
@@ -271,7 +306,7 @@ static void print_part(FILE *to, struct part part)
 static void print_first_broken(FILE *to, const struct line *line)
 {
     size_t field = first_broken(line);
-    if (field == FIELDS)
+    if (field == fields_of(line))
         return;
     fprintf(to, "  field %zu, %s, is ", field + 1, rules[field].name);
     print_part(to, line->fields[field]);
@@ -283,13 +318,40 @@ static void print_first_broken(FILE *to, const struct line *line)
     }
 }
 
+/* Whether the tag, or under another tag one of those that there are, asks for just so many fields. */
+static int count_fits(const struct line *line)
+{
+    const struct tag *tag = find_tag(line->fields[0]);
+    if (tag != NULL)
+        return line->count == tag->fields;
+    return line->count == FIELDS || line->count == FIELDS_WITHOUT_RATE;
+}
+
+/* Words for a number of fields that does not fit. A line of the other kind, whose fields are good but
+ * for that, is told from one that is cut or has too many commas. */
+static const char *count_trouble(const struct line *line)
+{
+    int is_other_kind = first_broken(line) == FIELDS_WITHOUT_RATE && !line->open;
+    if (is_other_kind && line->count == FIELDS_WITHOUT_RATE)
+        return ": rate of change and its delay are missing, or the tag must be GP1";
+    if (is_other_kind && line->count == FIELDS)
+        return ": a rate point needs GP2";
+    return line->count < fields_of(line) ? ", parted by commas" : ", and no comma within a number";
+}
+
 static void print_count(FILE *to, const struct line *line)
 {
-    if (line->count == FIELDS || (line->open && line->count < FIELDS))
+    const struct tag *tag = find_tag(line->fields[0]);
+    if (count_fits(line) || (line->open && line->count < fields_of(line)))
         return;
-    fprintf(to, "  the line has %zu field%s%s; it must have %d, ", line->count,
-            line->count == 1 ? "" : "s", line->open ? " or more" : "", FIELDS);
-    fputs(line->count < FIELDS ? "parted by commas\n" : "and no comma within a number\n", to);
+    fprintf(to, "  the line has %zu field%s%s; it must have ", line->count,
+            line->count == 1 ? "" : "s", line->open ? " or more" : "");
+    if (tag != NULL)
+        fprintf(to, "%zu under %s", tag->fields, tag->text);
+    else
+        fprintf(to, "%zu under %s or %zu under %s", tags[0].fields, tags[0].text, tags[1].fields,
+                tags[1].text);
+    fprintf(to, "%s\n", count_trouble(line));
 }
 
 static void print_end(FILE *to, const struct line *line)
@@ -306,8 +368,16 @@ static void print_end(FILE *to, const struct line *line)
         fputs("  bytes stand after the line feed; there must be one line and nothing else\n", to);
 }
 
+/* What is given for a line by mistake is often a file of another kind. */
+static void print_no_line(FILE *to, size_t length)
+{
+    const char *rival = rival_of_line(length);
+    fprintf(to, "  field 1, tag, is not GP1 or GP2; this does not look like a profile line%s%s\n",
+            rival != NULL ? ", but has the size of " : "", rival != NULL ? rival : "");
+}
+
 /* What is in front can make further words mislead; answers whether it does. */
-static int print_front(FILE *to, const struct line *line)
+static int print_front(FILE *to, const struct line *line, size_t length)
 {
     if (line->utf_16) {
         fputs("  a byte order mark of UTF-16 stands in front; save the file as plain ASCII\n", to);
@@ -318,7 +388,7 @@ static int print_front(FILE *to, const struct line *line)
     if (line->text.length == 0) {
         fputs("  the line is empty\n", to);
     } else if (!is_meant_as_line(line->text)) {
-        fputs("  field 1, tag, is not GP1; this does not look like a profile line\n", to);
+        print_no_line(to, length);
         return 1;
     }
     return 0;
@@ -328,7 +398,7 @@ void explain_line(FILE *to, const uint8_t *bytes, size_t length)
 {
     struct line line = {0};
     cut_line(&line, bytes, length);
-    if (print_front(to, &line))
+    if (print_front(to, &line, length))
         return;
     if (line.text.length > 0) {
         print_first_broken(to, &line);

@@ -52,12 +52,19 @@ static int read_all(int file, uint8_t *bytes, size_t room, size_t *length)
     return 0;
 }
 
+/* With the tag of either kind of line, and a comma. */
+static int begins_as_line(const struct input *input)
+{
+    return input->length >= 4 && (memcmp(input->bytes, "GP1,", 4) == 0 ||
+                                  memcmp(input->bytes, "GP2,", 4) == 0);
+}
+
 /* The whole size, for the messages alone; and a seed that others can read is no secret. */
 static void look_at(struct input *input, int file)
 {
     struct stat found;
     input->size = input->length;
-    input->begins_as_line = input->length >= 4 && memcmp(input->bytes, "GP1,", 4) == 0;
+    input->begins_as_line = begins_as_line(input);
     if (fstat(file, &found) != 0 || !S_ISREG(found.st_mode))
         return;
     if (found.st_size > 0 && (size_t)found.st_size > input->size)
@@ -106,8 +113,8 @@ int read_inputs(struct input *inputs, size_t count)
     return status;
 }
 
-/* A whole profile line: no seed is one by chance. What may be a seed is not read as a line, since that
- * would leave traces of it on the stack. */
+/* A whole profile line: no seed and no key is one by chance. What may be a seed is not read as a line,
+ * since that would leave traces of it on the stack. */
 static int is_profile(const struct input *input)
 {
     uint8_t image[GRIDPROFILE_PROFILE_IMAGE_BYTES];
@@ -121,8 +128,8 @@ int spare_lines(const struct request *request, const struct input *inputs, size_
     for (size_t at = 0; at < count; at++) {
         if (inputs[at].category == NULL || !is_size_taken(&inputs[at]) || !is_profile(&inputs[at]))
             continue;
-        (void)snprintf(what, sizeof what, "%s is a profile line, which everybody may know",
-                       inputs[at].role);
+        (void)snprintf(what, sizeof what, "%s is a profile line%s", inputs[at].role,
+                       inputs[at].sized == KEY_SIZE ? "" : ", which everybody may know");
         return misused(request->command, what, "see whether files are exchanged");
     }
     return 0;

@@ -1,5 +1,5 @@
 /* What a file looks like by its size. Where that is the size of several kinds, all of them are named,
- * and what may be a seed counts as one. */
+ * and what may be a seed or a key counts as one. */
 #include "program.h"
 
 struct kind_by_category {
@@ -16,6 +16,10 @@ static const struct kind_by_category by_category[] = {
     {PACKAGE_SIZE, PACKAGE, "a package"},
 };
 
+/* A store whose profiles had no place for a rate point. Nothing reads it any more; it is told from a
+ * damaged one. */
+enum { FORMER_IMAGE_BYTES = 1024, FORMER_FILE_BYTES = FORMER_IMAGE_BYTES + CHECKSUM_BYTES };
+
 struct kind_by_size {
     struct span span;
     enum kind kind;
@@ -27,6 +31,10 @@ static const struct kind_by_size at_any_category[] = {
     {{GRIDPROFILE_STORE_IMAGE_BYTES, GRIDPROFILE_STORE_IMAGE_BYTES}, STORE,
      "a store without a checksum"},
     {{STORE_FILE_BYTES, STORE_FILE_BYTES}, STORE, "a store"},
+    {{FORMER_IMAGE_BYTES, FORMER_IMAGE_BYTES}, FORMER_STORE,
+     "a store of the layout before rate points, without a checksum"},
+    {{FORMER_FILE_BYTES, FORMER_FILE_BYTES}, FORMER_STORE,
+     "a store of the layout before rate points"},
 };
 
 static const struct kind_by_size *find_at_any(size_t size)
@@ -75,6 +83,12 @@ int has_line_size(size_t size)
 {
     const struct kind_by_size *found = find_at_any(size);
     return found != NULL && found->kind == LINE;
+}
+
+const char *rival_of_line(size_t size)
+{
+    static char name[160];
+    return has_line_size(size) && name_by_category(name, sizeof name, size) > 0 ? name : NULL;
 }
 
 int is_line_input(const struct input *input)

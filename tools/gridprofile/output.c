@@ -83,15 +83,21 @@ static int find_missing(struct output *output)
 
 /* A seed is never replaced, of whatever category it is. Nor is a key or a store by something else: that
  * is a slip in the order of the arguments, and --force was not meant for it. */
+static int is_spared(enum kind old, enum kind new)
+{
+    if (old == FORMER_STORE)
+        return new != STORE;
+    return old == SEED || ((old == KEY || old == STORE) && old != new);
+}
+
 static int spare_old(const struct output *output, size_t size)
 {
-    enum kind old = kind_of(size);
     char why[256];
     if (output->kind == SEED)
         return file_trouble("write", output->path,
                             "it exists, and a private seed is written over no file; choose another "
                             "name");
-    if (old == SEED || ((old == KEY || old == STORE) && old != output->kind)) {
+    if (is_spared(kind_of(size), output->kind)) {
         (void)snprintf(why, sizeof why,
                        "it exists and has the size of %s, which nothing else replaces; choose "
                        "another name, or remove it first", kind_name(size));

@@ -55,11 +55,13 @@ const struct category *category_of(enum sized sized, size_t size);
 #define MOST_PACKAGE_BYTES GRIDPROFILE_CATEGORY5_PACKAGE_MAX_BYTES
 
 /* kinds.c: what a file of this many bytes looks like, and its names for people ("a public key of category
- * 3"). An input is a line where it begins as one and has the size of one, and else its size tells. */
-enum kind { NO_KIND, SEED, KEY, STORE, PACKAGE, LINE };
+ * 3"). An input is a line where it begins as one and has the size of one, and else its size tells.
+ * `rival_of_line` names what else has a size that a line may have, or is NULL. */
+enum kind { NO_KIND, SEED, KEY, STORE, FORMER_STORE, PACKAGE, LINE };
 struct input;
 enum kind kind_of(size_t size);
 const char *kind_name(size_t size);
+const char *rival_of_line(size_t size);
 int has_line_size(size_t size);
 int is_line_input(const struct input *input);
 const char *input_kind(const struct input *input);
@@ -90,7 +92,7 @@ struct input {
     size_t length;      /* what was read */
     size_t size;        /* what the file has, where that can be told, else what was read */
     int closed;         /* nobody but its owner can read it, as with a seed */
-    int begins_as_line; /* with GP1 and a comma: told before a seed is wiped */
+    int begins_as_line; /* with GP1 or GP2 and a comma: told before a seed is wiped */
 };
 
 /* A file that a command writes. */
@@ -174,6 +176,7 @@ int refused_because(const char *command, int answer, const char *meaning, const 
 int damaged_store(const char *path, const char *how);
 void warn(const char *path, const char *what);
 extern const char *const unreplaceable;
+extern const char *const former_store_advice;
 void print_refusals(FILE *to);
 
 /* explain.c: what is wrong first with a line that the library refuses. */

@@ -86,6 +86,11 @@ void warn(const char *path, const char *what)
 /* Of a profile with the greatest serial. */
 const char *const unreplaceable = "this serial is the greatest: nothing can replace the profile";
 
+/* Of a store whose profiles have no place for a rate point. */
+const char *const former_store_advice =
+    "a store of this layout is not converted: make a new one by `gridprofile new-store` and load its "
+    "packages again";
+
 int damaged_store(const char *path, const char *how)
 {
     (void)fflush(stdout);
@@ -150,15 +155,29 @@ int refused_because(const char *command, int answer, const char *meaning, const 
     return answer;
 }
 
-/* What helps to find the cause, of one input. */
+/* What helps to find the cause, of the key under which a package does not hold: a line may have its
+ * size. */
+static void print_key(int answer, const struct input *key)
+{
+    if (answer == GRIDPROFILE_MISMATCH) {
+        fputs("  ", stderr);
+        print_fingerprint(stderr, key->category, key->bytes);
+    }
+    if (is_line_input(key)) {
+        fprintf(stderr, "  %s (", key->role);
+        print_name(input_name(key));
+        fputs(") begins as a profile line does; see whether files are exchanged\n", stderr);
+    }
+}
+
+/* The same of any input. */
 static void print_input(int answer, const struct input *input)
 {
     if (answer == GRIDPROFILE_BAD_SIZE)
         print_size(input);
-    if (answer == GRIDPROFILE_MISMATCH && strcmp(input->role, "KEY") == 0) {
-        fputs("  ", stderr);
-        print_fingerprint(stderr, input->category, input->bytes);
-    }
+    if ((answer == GRIDPROFILE_MISMATCH || answer == GRIDPROFILE_BAD_FIELD) &&
+        strcmp(input->role, "KEY") == 0)
+        print_key(answer, input);
 }
 
 /* What the sizes of the files tell of their category. */
@@ -180,14 +199,25 @@ static void tell_category(struct told *told, const struct input *input)
         told->category = category;
 }
 
-/* Files of another category are told from files that are exchanged or damaged. */
+static int is_former_store(const struct input *input)
+{
+    return strcmp(input->role, "STORE") == 0 && kind_of(input->size) == FORMER_STORE;
+}
+
+/* Files of another category are told from files that are exchanged or damaged. A former store comes
+ * first: with it no other file helps. */
 static void print_size_advice(const struct input *inputs, size_t count)
 {
     struct told told = {0};
-    for (size_t at = 0; at < count; at++)
+    int former = 0;
+    for (size_t at = 0; at < count; at++) {
         if (inputs[at].category != NULL)
             tell_category(&told, &inputs[at]);
-    if (told.untold || (told.category == told.asked && !told.differ))
+        former |= is_former_store(&inputs[at]);
+    }
+    if (former)
+        print_advice(former_store_advice);
+    else if (told.untold || (told.category == told.asked && !told.differ))
         print_advice(refusals[GRIDPROFILE_BAD_SIZE - 1].advice);
     else if (told.differ)
         print_advice("these files are of different categories: take files of one, and name it by "

@@ -46,7 +46,8 @@ static const struct page pages[] = {
     {"lookup", "STORE COUNTRY CLASS", "", "print the line that is stored for COUNTRY and CLASS", ""},
     {"show", "FILE", "", "print a package, a store, a line or a key in words",
      "It verifies nothing. Of a key or a package it says the category. Of a key it prints the\n"
-     "fingerprint: 16 bytes of SHAKE128 of the key at category 1, 24 and 32 of SHAKE256 at 3 and 5.\n"},
+     "fingerprint: 16 bytes of SHAKE128 of the key at category 1, 24 and 32 of SHAKE256 at 3 and 5.\n"
+     "A line begins with GP1 or GP2; a file of 77 bytes that does not is taken for a key.\n"},
     {"preview", "[FILE]", "", "list what a device would hold after these lines",
      "The lines are taken as if they were signed; without FILE they come from standard input. How many\n"
      "were skipped, and why the first was, is said on standard error.\n"},
@@ -66,12 +67,12 @@ static const char *const files =
     "Files; \"-\" is standard input or standard output, and one input at most may be \"-\":\n"
     "  PRIVATE  private seed, secret: 32 bytes at category 1, 48 at 3, 64 at 5\n"
     "  KEY      public key: 77 bytes at category 1, 115 at 3, 153 at 5\n"
-    "  PACKAGE  signature and line: 19194 to 19224 bytes at category 1, 42724 to 42754 at 3,\n"
-    "           76340 to 76370 at 5\n"
+    "  PACKAGE  signature and line: 19194 to 19236 bytes at category 1, 42724 to 42766 at 3,\n"
+    "           76340 to 76382 at 5\n"
     "  MASTER   master seed, secret: 16 bytes at category 1, 24 at 3, 32 at 5\n"
     "  SALT     as many bytes as a private seed\n"
-    "  LINE     one profile line, 42 to 72 bytes with its line feed (`gridprofile help line`)\n"
-    "  STORE    16 profiles and a checksum, 1056 bytes; 1024 without the checksum\n"
+    "  LINE     one profile line, 42 to 84 bytes with its line feed (`gridprofile help line`)\n"
+    "  STORE    16 profiles and a checksum, 1248 bytes; 1216 without the checksum\n"
     "COUNTRY is two letters A to Z, CLASS one letter A to D.\n"
     "\n"
     "A file is written whole or not at all; after a refusal it is as it was.\n"
@@ -80,8 +81,9 @@ static const char *const files =
     "verify; 71 the system gives no random bytes; 74 a file cannot be read or written; else refused:\n";
 
 static const char *const line_rules =
-    "A profile line is 14 fields with commas between them, no spaces, and one line feed at the end:\n"
-    "   1 tag              GP1\n"
+    "A profile line is 14 fields, or 16 with a rate point (the last two), with commas between them, no\n"
+    "spaces, and one line feed at the end:\n"
+    "   1 tag              GP1 in a line of 14 fields, GP2 in one of 16\n"
     "   2 country          two letters A to Z\n"
     "   3 class            A 100 to 139 volts, B 140 to 259, C 260 to 519, D 520 to 1000\n"
     "   4 serial           1 to 4294967295\n"
@@ -95,8 +97,11 @@ static const char *const line_rules =
     "  12 its delay\n"
     "  13 under-frequency  -5000 to -1 mHz\n"
     "  14 its delay\n"
-    "Numbers have no leading zeros and no plus. An example:\n"
-    "  GP1,XA,B,12,230,50,1150,100,800,1500,1500,100,-2500,100\n";
+    "  15 rate of change   100 to 10000 mHz per second\n"
+    "  16 its delay\n"
+    "Numbers have no leading zeros and no plus. Two examples:\n"
+    "  GP1,XA,B,12,230,50,1150,100,800,1500,1500,100,-2500,100\n"
+    "  GP2,XA,B,13,230,50,1150,100,800,1500,1500,100,-2500,100,2000,500\n";
 
 static const struct page *find_page(const char *name)
 {

@@ -41,6 +41,17 @@ static void print_frequency(const char *name, const uint8_t *trip, uint32_t hert
            number(trip + GRIDPROFILE_TRIP_DELAY_OFFSET));
 }
 
+/* Nothing where the profile has no rate point. */
+static void print_rate(const char *name, const uint8_t *trip)
+{
+    uint32_t rate = number(trip + GRIDPROFILE_TRIP_LIMIT_OFFSET);
+    if (number(trip + GRIDPROFILE_TRIP_KIND_OFFSET) == GRIDPROFILE_RATE_ABSENT)
+        return;
+    printf("  %-16s%" PRIu32 " mHz per second (%" PRIu32 ".%03" PRIu32 " Hz/s), after %" PRIu32
+           " ms\n",
+           name, rate, rate / 1000, rate % 1000, number(trip + GRIDPROFILE_TRIP_DELAY_OFFSET));
+}
+
 int print_profile(const uint8_t *image)
 {
     uint8_t line[GRIDPROFILE_LINE_MAX_BYTES];
@@ -57,5 +68,6 @@ int print_profile(const uint8_t *image)
     print_voltage("under-voltage", image + GRIDPROFILE_UNDER_VOLTAGE_OFFSET, volts);
     print_frequency("over-frequency", image + GRIDPROFILE_OVER_FREQUENCY_OFFSET, hertz);
     print_frequency("under-frequency", image + GRIDPROFILE_UNDER_FREQUENCY_OFFSET, hertz);
+    print_rate("rate of change", image + GRIDPROFILE_RATE_OFFSET);
     return 0;
 }

@@ -1,5 +1,5 @@
-// Writing the image of a profile. That numbers are below 2^32, as every value of their type is, is ensured along with their
-// bytes: so the image means the profile.
+// Writing the image of a profile. That numbers are below 2^32, as every value of their type is, is ensured along with
+// their bytes: so the image means the profile.
 use profile::Profile;
 use profile::RatePoint;
 use profile::Trip;
@@ -13,7 +13,8 @@ ghost use Prim.Native.Nat.{_+_, _≤_, _%_};
 ghost use lib.ListN.{length};
 ghost use Rattle.decimal.specs.Decimal.{Appended};
 ghost use Rattle.image.specs.Image.{profileSize, word, headImage, tripImage, rateImage, tripsImage};
-ghost use Rattle.image.specs.Image.{isRate, isRatePoint, hasImage, Small, TripFits, RateFits, TripsFit, ProfileWritten};
+ghost use Rattle.image.specs.Image.{isRate, isRatePoint, hasImage, Small, TripFits, RateFits, TripsFit};
+ghost use Rattle.image.specs.Image.{ProfileWritten};
 
 fn low(n: u32) -> u8
     ensures { λ r. ⌜ r ≡ n % 256 ⌝ }

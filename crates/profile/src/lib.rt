@@ -16,8 +16,8 @@ pub const SHORTEST: usize = 42;
 
 pub const LONGEST: usize = 84;
 
-// Where a trip point trips: a voltage in thousandths of nominal, millihertz above or below the nominal frequency, or a rate of
-// change of frequency in millihertz per second.
+// Where a trip point trips: a voltage in thousandths of nominal, millihertz above or below the nominal frequency, or a
+// rate of change of frequency in millihertz per second.
 pub enum Limit {
     Share(u32),
     Offset { below: bool, millihertz: u32 },

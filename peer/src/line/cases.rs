@@ -13,7 +13,12 @@ fn within(rng: &mut Rng, range: &RangeInclusive<u32>) -> u32 {
     }
 }
 
-/// Some valid profile.
+/// Some valid rate point.
+pub fn some_rate(rng: &mut Rng) -> Rate {
+    Rate { limit: within(rng, &RATES), delay: within(rng, &DELAYS) }
+}
+
+/// Some valid profile, in one of two with a rate point.
 pub fn valid(rng: &mut Rng) -> Profile {
     let ends = [100..=139, 140..=259, 260..=519, 520..=1_000];
     let class = rng.below(4);
@@ -27,10 +32,43 @@ pub fn valid(rng: &mut Rng) -> Profile {
         volts,
         hertz: [50, 60][rng.below(2)],
         trips: TRIPS.map(|(kind, limits)| Trip { kind, limit: within(rng, &limits), delay: within(rng, &DELAYS) }),
+        rate: (rng.below(2) == 0).then(|| some_rate(rng)),
     }
 }
 
-/// The 14 fields of a profile's line.
+/// Every number of a profile.
+fn numbers(p: &mut Profile) -> Vec<&mut u32> {
+    let trips = p.trips.iter_mut().flat_map(|trip| [&mut trip.limit, &mut trip.delay]);
+    let rate = p.rate.iter_mut().flat_map(|rate| [&mut rate.limit, &mut rate.delay]);
+    [&mut p.serial, &mut p.volts, &mut p.hertz].into_iter().chain(trips).chain(rate).collect()
+}
+
+/// The same with one of its numbers a digit longer, where that breaks no rule.
+fn longer(profile: &Profile, at: usize) -> Option<Profile> {
+    let mut next = *profile;
+    let number = numbers(&mut next).swap_remove(at);
+    *number = number.checked_mul(10)?;
+    next.class = class_of(next.volts)?;
+    next.is_valid().then_some(next)
+}
+
+/// Valid profiles with a rate point or without: the first has the shortest line, each other one that is a byte longer,
+/// and the last the longest.
+pub fn by_length(with_rate: bool) -> Vec<Profile> {
+    let trips = TRIPS.map(|(kind, limits)| Trip { kind, limit: *limits.start(), delay: *DELAYS.start() });
+    let rate = with_rate.then_some(Rate { limit: *RATES.start(), delay: *DELAYS.start() });
+    let mut last = Profile { country: *b"AA", class: b'A', serial: 1, volts: 100, hertz: 50, trips, rate };
+    let mut all = vec![last];
+    for at in 0..numbers(&mut last).len() {
+        while let Some(next) = longer(&last, at) {
+            last = next;
+            all.push(last);
+        }
+    }
+    all
+}
+
+/// The fields of a profile's line: 14, and two more for a rate point.
 pub fn fields(profile: &Profile) -> Vec<String> {
     profile.line().trim_end().split(',').map(str::to_string).collect()
 }
@@ -49,11 +87,12 @@ pub fn texts(field: usize) -> Vec<String> {
         8 => vec![0, 1, 999, 1_000],
         10 => vec![0, 1, 5_000, 5_001],
         12 => vec![-5_001, -5_000, -1, 0, 1],
-        7 | 9 | 11 | 13 => vec![0, 19, 20, 60_000, 60_001],
+        14 => vec![0, 99, 100, 10_000, 10_001, 4_294_967_295, 4_294_967_296, 4_294_967_396],
+        7 | 9 | 11 | 13 | 15 => vec![0, 19, 20, 60_000, 60_001, 4_294_967_316],
         _ => Vec::new(),
     };
     let words: &[&str] = match field {
-        0 => &["GP1", "GP2", "gp1", "GP", "GP11", " GP1", "", "\u{feff}GP1"],
+        0 => &["GP1", "GP2", "GP0", "GP3", "gp1", "gp2", "GP", "GP11", "GP22", " GP1", " GP2", "", "\u{feff}GP1"],
         1 => &["AA", "AZ", "ZA", "ZZ", "@A", "A@", "[A", "A[", "aA", "Az", "A", "AAA", "", "\u{e9}"],
         2 => &["A", "B", "C", "D", "@", "E", "a", "AA", ""],
         _ => &["", "-", "+", "x", " ", "-0", "00", "0x10", "1e3", "1.0", "\"50\"", "٣"],
@@ -73,17 +112,23 @@ pub fn texts(field: usize) -> Vec<String> {
     spelt.chain(words.iter().map(|word| word.to_string())).collect()
 }
 
+/// Numbers that stand for the presence of a rate point: only 0 says that it is absent.
+pub const PRESENCES: [u32; 8] = [0, 1, 2, 255, 256, 65_536, 16_777_216, u32::MAX];
+
 /// Any image: a valid one, one with a number changed to one near a boundary, or noise.
 pub fn any_image(rng: &mut Rng) -> [u8; IMAGE] {
     let mut bytes = image(&valid(rng));
-    match rng.below(6) {
+    match rng.below(7) {
         0 => (),
         1 => rng.fill(&mut bytes),
         2 => bytes[rng.below(IMAGE)] = rng.below(256) as u8,
         3 => bytes[rng.below(4)] = rng.below(256) as u8,
+        4 => bytes[RATE..RATE + 4].copy_from_slice(&PRESENCES[rng.below(PRESENCES.len())].to_le_bytes()),
         _ => {
-            let near = [0, 1, 2, 3, 19, 20, 49, 50, 60, 99, 100, 999, 1_000, 1_001, 1_500, 1_501, 5_000, 5_001, 60_000];
-            let (at, number) = (4 + 4 * rng.below(15), near[rng.below(near.len())] + rng.below(2) as u32);
+            let near = [
+                0, 1, 2, 3, 19, 20, 49, 50, 60, 99, 100, 999, 1_000, 1_001, 1_500, 1_501, 5_000, 5_001, 10_000, 60_000,
+            ];
+            let (at, number) = (4 + 4 * rng.below(IMAGE / 4 - 1), near[rng.below(near.len())] + rng.below(2) as u32);
             bytes[at..at + 4].copy_from_slice(&number.to_le_bytes());
         }
     }

@@ -1,7 +1,7 @@
 //! Inputs for the preview.
 
 use super::*;
-use crate::line::cases::valid;
+use crate::line::cases::{by_length, valid};
 use crate::line::{write_line, Profile};
 use crate::rng::Rng;
 
@@ -11,22 +11,51 @@ GP1,XA,B,12,230,50,1150,100,800,1500,1500,100,-2500,100
 GP1,XA,C,5,400,50,1100,200,850,1500,1500,100,-2500,100
 ";
 
+/// Lines of both kinds: a rate point comes with a greater serial, and goes with one. The others are refused: for their
+/// rate, and twice for fields that belong to the other tag.
+pub const BOTH_KINDS: &str = "\
+GP1,XA,B,12,230,50,1150,100,800,1500,1500,100,-2500,100
+GP2,XA,B,13,230,50,1150,100,800,1500,1500,100,-2500,100,2000,500
+GP2,XA,B,14,230,50,1150,100,800,1500,1500,100,-2500,100,99,500
+GP1,XA,B,15,230,50,1150,100,800,1500,1500,100,-2500,100,2000,500
+GP2,XA,B,16,230,50,1150,100,800,1500,1500,100,-2500,100
+GP2,XA,C,5,400,50,1100,200,850,1500,1500,100,-2500,100,2000,500
+GP1,XA,C,6,400,50,1100,200,850,1500,1500,100,-2500,100
+";
+
+fn written(profile: &Profile) -> String {
+    String::from_utf8(write_line(profile).expect("valid")).expect("letters and digits")
+}
+
 /// A valid line of one of a few countries, with a small serial, so that pairs come again.
 pub fn line(rng: &mut Rng, countries: usize) -> String {
-    let profile =
-        Profile { country: [b'X', b'A' + rng.below(countries) as u8], serial: 1 + rng.below(9) as u32, ..valid(rng) };
-    String::from_utf8(write_line(&profile).expect("valid")).expect("letters and digits")
+    let country = [b'X', b'A' + rng.below(countries) as u8];
+    written(&Profile { country, serial: 1 + rng.below(9) as u32, ..valid(rng) })
 }
 
 fn lines(rng: &mut Rng, count: usize, countries: usize) -> String {
     (0..count).map(|_| line(rng, countries)).collect()
 }
 
+fn reversed(lines: &str) -> String {
+    lines.lines().rev().map(|line| line.to_string() + "\n").collect()
+}
+
 /// `count` pairs, each of a country of its own.
 fn pairs(rng: &mut Rng, count: u8) -> String {
     let country = |at| [b'A' + at / 26, b'A' + at % 26];
-    let mut one = |at| write_line(&Profile { country: country(at), ..valid(rng) }).expect("valid");
-    (0..count).map(|at| String::from_utf8(one(at)).expect("letters and digits")).collect()
+    (0..count).map(|at| written(&Profile { country: country(at), ..valid(rng) })).collect()
+}
+
+/// The longest line of each kind, and for another country the same with a digit more, which is refused.
+fn longest() -> String {
+    let mut all = String::new();
+    for (with_rate, [one, other]) in [(false, [*b"XA", *b"XB"]), (true, [*b"XC", *b"XD"])] {
+        let last = *by_length(with_rate).last().expect("a profile");
+        all += &written(&Profile { country: one, ..last });
+        all += &written(&Profile { country: other, ..last }).replace('\n', "0\n");
+    }
+    all
 }
 
 /// Lines up to just `len` bytes: valid ones, then one that is refused.
@@ -50,6 +79,9 @@ pub fn named(rng: &mut Rng) -> Vec<(&'static str, Vec<u8>)> {
     last_line_ends.splice(LONGEST_INPUT - last.len().., text(&last));
     vec![
         ("the example", text(EXAMPLE)),
+        ("both kinds", text(BOTH_KINDS)),
+        ("both kinds the other way round", text(&reversed(BOTH_KINDS))),
+        ("the longest lines, and longer ones", text(&longest())),
         ("nothing", Vec::new()),
         ("no LF", text("GP1,XA,B,12")),
         ("one line without its LF", text(good.lines().next().expect("three"))),
@@ -63,10 +95,7 @@ pub fn named(rng: &mut Rng) -> Vec<(&'static str, Vec<u8>)> {
         ("40 pairs, then the first again", text(&(pairs(rng, 40) + &pairs(rng, 16)))),
         ("replaced serials", text(&lines(rng, 200, 2))),
         ("the same line twice", text(&EXAMPLE.repeat(2))),
-        (
-            "the lines the other way round",
-            text(&EXAMPLE.lines().rev().map(|l| l.to_string() + "\n").collect::<String>()),
-        ),
+        ("the lines the other way round", text(&reversed(EXAMPLE))),
         ("NUL bytes", vec![0; 300]),
         ("NUL bytes between lines", text(&good.replace('\n', "\n\0\n"))),
         ("NUL bytes after lines", text(&good.replace('\n', "\0\n"))),

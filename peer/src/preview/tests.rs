@@ -1,12 +1,17 @@
 //! The worked example, and what is skipped.
 
-use super::cases::{any, named, EXAMPLE};
+use super::cases::{any, named, BOTH_KINDS, EXAMPLE};
 use super::*;
 use crate::rng::Rng;
 
 #[test]
 fn the_example() {
     assert_eq!(listing(EXAMPLE.as_bytes()), "COUNTRY,CLASS,SERIAL\nXA,B,12\nXA,C,5\n");
+}
+
+#[test]
+fn both_kinds() {
+    assert_eq!(listing(BOTH_KINDS.as_bytes()), "COUNTRY,CLASS,SERIAL\nXA,B,13\nXA,C,6\n");
 }
 
 #[test]
@@ -22,7 +27,7 @@ fn rows_of_the_named_inputs() {
     for name in ["16 pairs", "17 pairs", "40 pairs, then the first again"] {
         assert_eq!(rows(name), 16, "{name}");
     }
-    for name in ["the same line twice", "the lines the other way round"] {
+    for name in ["the same line twice", "the lines the other way round", "the longest lines, and longer ones"] {
         assert_eq!(rows(name), 2, "{name}");
     }
 }

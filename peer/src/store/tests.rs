@@ -1,7 +1,8 @@
 //! The store as a map, and a package that loads.
 
 use super::*;
-use crate::line::cases::valid;
+use crate::line::cases::{some_rate, valid};
+use crate::line::RATE;
 use crate::rng::Rng;
 use crate::sizes::CATEGORIES;
 
@@ -23,6 +24,21 @@ fn a_greater_serial_replaces() {
     assert_eq!(store.put(next, &device(&p)), Ok(()));
     assert_eq!(store.lookup(&device(&p)), Ok(next));
     assert_eq!(store.sorted(), [next]);
+}
+
+/// A profile with a rate point replaces one without, and the reverse: the serial alone decides.
+#[test]
+fn a_rate_point_comes_and_goes() {
+    let (mut store, rate) = (Store::default(), Some(some_rate(&mut Rng::new(42))));
+    for (serial, rate, wanted) in
+        [(12, None, Ok(())), (12, rate, Err(7)), (13, rate, Ok(())), (13, None, Err(7)), (14, None, Ok(()))]
+    {
+        let (p, held) = (Profile { rate, ..profile(b"XA", serial) }, store.sorted());
+        assert_eq!(store.put(p, &device(&p)), wanted);
+        assert_eq!(store.sorted(), if wanted.is_ok() { vec![p] } else { held });
+        assert_eq!(Store::from_image(&store.image()).sorted(), store.sorted());
+    }
+    assert!(store.image()[RATE..IMAGE].iter().all(|&byte| byte == 0));
 }
 
 #[test]
@@ -89,9 +105,10 @@ fn another_device_is_refused() {
 #[test]
 fn a_made_package_loads() {
     let (mut rng, mut out) = (Rng::new(41), [0; LONGEST]);
-    for s in CATEGORIES {
+    for (s, with_rate) in CATEGORIES.into_iter().flat_map(|s| [(s, false), (s, true)]) {
         let [private, master, salt] = [s.key_seed, s.round_seed, s.salt].map(|len| rng.bytes(len));
-        let (p, mut key, mut package) = (valid(&mut rng), vec![0; s.key()], vec![7; s.signature() + 72]);
+        let (mut key, mut package) = (vec![0; s.key()], vec![7; s.signature() + 84]);
+        let p = Profile { rate: with_rate.then(|| some_rate(&mut rng)), ..valid(&mut rng) };
         let line = write_line(&p).unwrap();
         assert_eq!(scheme::make_key(&s, &private, &mut key), 0);
         let (answer, length) = make_package(&s, [&private, &master, &salt], &line, &mut package, 0);
@@ -110,7 +127,8 @@ fn a_made_package_loads() {
 }
 
 #[test]
-fn packages_have_the_lengths_of_the_paper() {
+fn packages_and_images_have_the_lengths_of_the_paper() {
     let lengths = CATEGORIES.map(|s| package_lengths(&s).into_inner());
-    assert_eq!(lengths, [(19_194, 19_224), (42_724, 42_754), (76_340, 76_370)]);
+    assert_eq!(lengths, [(19_194, 19_236), (42_724, 42_766), (76_340, 76_382)]);
+    assert_eq!(STORE, 1_216);
 }

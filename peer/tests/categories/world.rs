@@ -59,7 +59,7 @@ pub fn lengths(s: &Sizes) -> Vec<usize> {
     let scheme = [s.key_seed, s.round_seed, s.salt, s.digest, s.key(), s.signature()];
     let replies = [0, 1].into_iter().flat_map(|challenge| [s.reply(challenge), s.part(challenge)]);
     let (shortest, longest) = package_lengths(s).into_inner();
-    let packages = [shortest - 1, shortest, longest, longest + 1];
+    let packages = [shortest - 1, shortest, s.signature() + 72, s.signature() + 73, longest, longest + 1];
     let mut all: Vec<usize> = blocks.into_iter().chain(numbers).chain(scheme).chain(replies).chain(packages).collect();
     all.sort();
     all.dedup();

@@ -1,9 +1,12 @@
 //! Lines read and written through C, beside the independent program: the answer, the whole image,
 //! the whole buffer and the length.
 
+mod kinds;
+mod rates;
+
 use peer::harness::{Comparison, Tally, LEAST};
-use peer::line::cases::{any_image, fields, joined, texts, valid};
-use peer::line::{image, LONGEST};
+use peer::line::cases::{any_image, by_length, fields, joined, some_rate, texts, valid};
+use peer::line::{image, Profile, LONGEST};
 use peer::rng::Rng;
 use peer::{archive, entries, line};
 
@@ -13,16 +16,38 @@ fn reader() -> Comparison {
     Comparison::new("read_line", archive::read_line, entries::read_line)
 }
 
-fn line_of(rng: &mut Rng) -> Vec<u8> {
-    line::write_line(&valid(rng)).expect("valid")
+fn written(profile: &Profile) -> Vec<u8> {
+    line::write_line(profile).expect("valid")
 }
 
-/// Valid lines, often at the ends of several ranges.
+fn line_of(rng: &mut Rng) -> Vec<u8> {
+    written(&valid(rng))
+}
+
+/// A profile without a rate point, and the same with one.
+fn both_kinds(rng: &mut Rng) -> [Profile; 2] {
+    let (profile, rate) = (valid(rng), some_rate(rng));
+    [None, Some(rate)].map(|rate| Profile { rate, ..profile })
+}
+
+/// For each kind the shortest line, one of middle length, and the longest.
+fn some_lengths() -> Vec<Vec<u8>> {
+    let three = |all: Vec<Profile>| [0, all.len() / 2, all.len() - 1].map(|at| written(&all[at]));
+    [false, true].into_iter().flat_map(|with_rate| three(by_length(with_rate))).collect()
+}
+
+/// Valid lines, often at the ends of several ranges. What is read from one is written as that line.
 #[test]
 fn valid_lines() {
     let (mut c, mut rng) = (reader(), Rng::new(0x6C69_6E65));
-    for _ in 0..LEAST {
-        c.demand(&line_of(&mut rng), IMAGE, 0);
+    while c.missing() > 0 {
+        for line in both_kinds(&mut rng).each_ref().map(written) {
+            c.demand(&line, IMAGE, 0);
+            let (mut image, mut out) = ([0; IMAGE], [0; LONGEST]);
+            assert_eq!(archive::read_line(&line, &mut image), 0);
+            assert_eq!(archive::write_line(&image, &mut out, 0), (0, line.len()));
+            assert_eq!(out[..line.len()], line);
+        }
     }
     c.finish(&[0]);
 }
@@ -31,13 +56,14 @@ fn valid_lines() {
 #[test]
 fn classes_at_their_ends() {
     let ends = [(100, 'A'), (139, 'A'), (140, 'B'), (259, 'B'), (260, 'C'), (519, 'C'), (520, 'D'), (1000, 'D')];
-    for (volts, class) in ends {
+    let kinds = [("GP1", ""), ("GP2", ",2000,500")];
+    for ((volts, class), (tag, end)) in ends.into_iter().flat_map(|at| kinds.map(|kind| (at, kind))) {
         for letter in 'A'..='D' {
-            let line = format!("GP1,XA,{letter},12,{volts},50,1150,100,800,1500,1500,100,-2500,100\n");
+            let line = format!("{tag},XA,{letter},12,{volts},50,1150,100,800,1500,1500,100,-2500,100{end}\n");
             let mut image = [0; IMAGE];
             let wanted = if letter == class { 0 } else { 5 };
-            assert_eq!(archive::read_line(line.as_bytes(), &mut image), wanted, "{volts} {letter}");
-            assert_eq!(image[3], if letter == class { letter as u8 } else { 0 }, "{volts} {letter}");
+            assert_eq!(archive::read_line(line.as_bytes(), &mut image), wanted, "{tag} {volts} {letter}");
+            assert_eq!(image[3], if letter == class { letter as u8 } else { 0 }, "{tag} {volts} {letter}");
         }
     }
 }
@@ -64,16 +90,17 @@ fn every_boundary() {
     c.finish(&[0, 1, 5]);
 }
 
-/// Every byte of some lines changed to every other value, the shortest and the longest among them.
+/// Every byte of some lines changed to every other value, the shortest and the longest of each kind among them.
 #[test]
 fn every_byte() {
     let (mut c, mut rng) = (reader(), Rng::new(0x6279_7465));
-    let mut lines = vec![
-        b"GP1,AA,A,1,100,50,1001,20,1,20,1,20,-1,20\n".to_vec(),
+    let mut lines = some_lengths();
+    lines.extend([
         b"GP1,ZZ,D,4294967295,1000,60,1500,60000,999,60000,5000,60000,-5000,60000\n".to_vec(),
-    ];
-    while c.missing() > 0 {
-        let line = lines.pop().unwrap_or_else(|| line_of(&mut rng));
+        b"GP2,ZZ,D,4294967295,1000,60,1500,60000,999,60000,5000,60000,-5000,60000,10000,60000\n".to_vec(),
+    ]);
+    lines.extend((0..4).map(|_| line_of(&mut rng)));
+    for line in lines {
         for at in 0..line.len() {
             for byte in 0..=255 {
                 let mut other = line.clone();
@@ -118,14 +145,16 @@ fn edited(rng: &mut Rng, mut line: Vec<u8>) -> Vec<u8> {
 #[test]
 fn anything_else() {
     let (mut c, mut rng) = (reader(), Rng::new(0x616E_7974));
-    let line = line_of(&mut rng);
+    let lines = both_kinds(&mut rng).each_ref().map(written);
     for len in 0..=200 {
-        let mut other = line.clone();
-        other.resize(len, b'\n');
-        c.agree(&other, IMAGE);
+        for line in &lines {
+            let mut other = line.clone();
+            other.resize(len, b'\n');
+            c.agree(&other, IMAGE);
+            c.demand(line, len, u8::from(len != IMAGE));
+        }
         c.agree(&rng.bytes(len), IMAGE);
         c.agree(&rng.numbers(len, 128), IMAGE);
-        c.demand(&line, len, u8::from(len != IMAGE));
         c.demand(b"short", len, 1);
         c.demand(&[b'x'; 50], len, if len == IMAGE { 5 } else { 1 });
     }
@@ -151,19 +180,20 @@ fn write(t: &mut Tally, image: &[u8], room: usize) -> u8 {
 #[test]
 fn writing() {
     let (mut t, mut rng) = (Tally::new("write_line"), Rng::new(0x7772_6974));
-    let good = image(&valid(&mut rng));
-    for len in 0..=200 {
-        assert_eq!(write(&mut t, &good, len), u8::from(len != LONGEST));
-        assert_eq!(write(&mut t, &[0xFF; IMAGE], len), if len == LONGEST { 5 } else { 1 });
-        let mut other = good.to_vec();
-        other.resize(len, 0);
-        assert_eq!(write(&mut t, &other, LONGEST), u8::from(len != IMAGE));
-    }
-    for at in 0..IMAGE {
-        for byte in 0..=255 {
-            let mut other = good;
-            other[at] = byte;
-            write(&mut t, &other, LONGEST);
+    for good in both_kinds(&mut rng).each_ref().map(image) {
+        for len in 0..=200 {
+            assert_eq!(write(&mut t, &good, len), u8::from(len != LONGEST));
+            assert_eq!(write(&mut t, &[0xFF; IMAGE], len), if len == LONGEST { 5 } else { 1 });
+            let mut other = good.to_vec();
+            other.resize(len, 0);
+            assert_eq!(write(&mut t, &other, LONGEST), u8::from(len != IMAGE));
+        }
+        for at in 0..IMAGE {
+            for byte in 0..=255 {
+                let mut other = good;
+                other[at] = byte;
+                write(&mut t, &other, LONGEST);
+            }
         }
     }
     while t.inputs() < LEAST {

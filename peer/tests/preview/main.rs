@@ -5,7 +5,7 @@ mod program;
 
 use peer::archive;
 use peer::harness::Tally;
-use peer::preview::cases::{any, named};
+use peer::preview::cases::{any, named, BOTH_KINDS};
 use peer::preview::{in_order, preview, LISTING};
 use peer::rng::Rng;
 
@@ -39,13 +39,14 @@ fn listings() {
     t.finish(10_000, &[0, 1]);
 }
 
-/// One input cut after each of its bytes.
+/// Two inputs cut after each of their bytes.
 #[test]
 fn every_cut() {
     let (mut t, mut rng) = (Tally::new("preview, cut"), Rng::new(0x6375_7473));
-    let input = any(&mut rng);
-    for end in 0..=input.len() {
-        compare(&mut t, "cut", &input[..end], LISTING);
+    for input in [any(&mut rng), BOTH_KINDS.as_bytes().to_vec()] {
+        for end in 0..=input.len() {
+            compare(&mut t, "cut", &input[..end], LISTING);
+        }
     }
-    t.finish(1, &[0]);
+    t.finish(1 + BOTH_KINDS.len(), &[0]);
 }

@@ -1,6 +1,6 @@
 //! The program, fed through a pipe.
 
-use peer::preview::cases::{any, named};
+use peer::preview::cases::{any, named, BOTH_KINDS, EXAMPLE};
 use peer::preview::{in_order, listing};
 use peer::rng::Rng;
 use std::io::{Read, Write};
@@ -47,9 +47,10 @@ fn run(input: &[u8], feed: Feed) -> String {
 }
 
 #[test]
-fn the_example_as_it_stands() {
-    let out = run(peer::preview::cases::EXAMPLE.as_bytes(), at_once);
-    assert_eq!(out, "COUNTRY,CLASS,SERIAL\nXA,B,12\nXA,C,5\n");
+fn the_examples_as_they_stand() {
+    for (input, rows) in [(EXAMPLE, "XA,B,12\nXA,C,5\n"), (BOTH_KINDS, "XA,B,13\nXA,C,6\n")] {
+        assert_eq!(run(input.as_bytes(), at_once), format!("COUNTRY,CLASS,SERIAL\n{rows}"));
+    }
 }
 
 #[test]

@@ -101,6 +101,15 @@ impl Both {
         self.lookup(t, device, LONGEST)
     }
 
+    /// The line that the archive finds for a device.
+    pub fn line(&self, device: &Device) -> Vec<u8> {
+        let mut out = vec![0; LONGEST];
+        let (answer, length) = archive::lookup(&self.proved, device, &mut out, 0);
+        assert_eq!(answer, 0, "{device:?}");
+        out.truncate(length);
+        out
+    }
+
     /// Looks every pair up.
     pub fn find_all(&self, t: &mut Tally) {
         for device in devices() {

@@ -4,6 +4,7 @@
 
 mod both;
 mod images;
+mod kinds;
 mod packages;
 mod refusals;
 mod runs;

@@ -3,8 +3,8 @@
 use crate::both::{device_of, Both, Sent};
 use peer::archive::{Category, CATEGORIES};
 use peer::harness::Tally;
-use peer::line::cases::valid;
-use peer::line::{read_line, write_line};
+use peer::line::cases::{some_rate, valid};
+use peer::line::{read_line, write_line, Profile};
 use peer::rng::Rng;
 use peer::scheme;
 use peer::store::{make_package, package_lengths, Device};
@@ -31,15 +31,17 @@ fn room(category: &Category) -> usize {
 }
 
 /// Lines that have a line's length or not, each with what is due where all else is right.
-fn lines(good: &[u8]) -> Vec<(Vec<u8>, u8)> {
-    let noise = [(0, 1), (1, 1), (41, 1), (42, 5), (72, 5), (73, 1), (200, 1)].map(|(len, due)| (vec![b'x'; len], due));
-    [(good.to_vec(), 0)].into_iter().chain(noise).collect()
+fn lines(good: &[Vec<u8>; 2]) -> Vec<(Vec<u8>, u8)> {
+    let noise = [(0, 1), (1, 1), (41, 1), (42, 5), (72, 5), (73, 5), (84, 5), (85, 1), (200, 1)]
+        .map(|(len, due)| (vec![b'x'; len], due));
+    good.clone().map(|line| (line, 0)).into_iter().chain(noise).collect()
 }
 
 /// Every choice of short, right and long for each buffer, with every line; and other lengths.
 fn sizes_at(category: &Category) {
     let (mut t, mut rng, room) = (category.tally("make_package, sizes"), Rng::new(3), room(category));
-    let (whole, good) = (seeds(category, &mut rng), write_line(&valid(&mut rng)).expect("valid"));
+    let (whole, profile, rate) = (seeds(category, &mut rng), valid(&mut rng), some_rate(&mut rng));
+    let good = [None, Some(rate)].map(|rate| write_line(&Profile { rate, ..profile }).expect("valid"));
     for choice in 0..81usize {
         let how = [choice % 3, choice / 3 % 3, choice / 9 % 3, choice / 27];
         let mut parts = whole.clone();
@@ -52,16 +54,17 @@ fn sizes_at(category: &Category) {
         }
     }
     let s = category.sizes;
-    for len in [0, 1, 2 * s.key_seed, s.signature(), *package_lengths(&s).start(), room, 2 * room] {
+    let shortest = *package_lengths(&s).start();
+    for len in [0, 1, 2 * s.key_seed, s.signature(), shortest, s.signature() + 72, room, 2 * room] {
         for at in 0..3 {
             let mut parts = whole.clone();
             parts[at].resize(len, 0);
-            assert_eq!(compare(category, &mut t, &parts, &good, room), 1);
+            assert_eq!(compare(category, &mut t, &parts, &good[0], room), 1);
         }
         let wanted = u8::from(len != room);
-        assert_eq!(compare(category, &mut t, &whole, &good, len), wanted);
+        assert_eq!(compare(category, &mut t, &whole, &good[0], len), wanted);
     }
-    t.finish(676, &[0, 1, 5]);
+    t.finish(923, &[0, 1, 5]);
 }
 
 #[test]
@@ -116,13 +119,19 @@ fn packages() {
     }
 }
 
-/// The shortest and the longest line there is, with the lengths of their packages at each category.
-const ENDS: [(&[u8], [usize; 3]); 2] = [
+/// The shortest and the longest line of each kind, with the lengths of their packages at each category.
+const ENDS: [(&[u8], [usize; 3]); 4] = [
     (b"GP1,XA,A,1,100,50,1001,20,1,20,1,20,-1,20\n", [19_194, 42_724, 76_340]),
+    (b"GP2,XA,A,1,100,50,1001,20,1,20,1,20,-1,20,100,20\n", [19_201, 42_731, 76_347]),
     (b"GP1,XA,D,4294967295,1000,50,1500,60000,999,60000,5000,60000,-5000,60000\n", [19_224, 42_754, 76_370]),
+    (
+        b"GP2,XA,D,4294967295,1000,50,1500,60000,999,60000,5000,60000,-5000,60000,10000,60000\n",
+        [19_236, 42_766, 76_382],
+    ),
 ];
 
-/// The packages of both lines load; a byte less than the shorter and a byte more than the longer are 1.
+/// The packages of these lines load. A byte less than the shortest and a byte more than the longest are 1; between them
+/// the length is right, and the parts of the signature are cut by another challenge than they were made for.
 #[test]
 fn ends() {
     for (at, category) in CATEGORIES.iter().enumerate() {
@@ -135,13 +144,15 @@ fn ends() {
             load_made(category, &mut loads, &mut finds, &parts, line);
             let (key, package) = made(category, &parts, line);
             assert_eq!(package.len(), lengths[at]);
-            let outside =
-                if line.len() == 42 { package[..package.len() - 1].to_vec() } else { [&package[..], b"\n"].concat() };
             let device = Device { country: b"XA", class: u32::from(line[7]) };
-            assert_eq!(Both::empty(category).load_fast(&mut loads, Sent { key: &key, package: &outside }, &device), 1);
+            for other in [package[..package.len() - 1].to_vec(), [&package[..], b"\n"].concat()] {
+                let wanted = if (42..=84).contains(&(other.len() - category.sizes.signature())) { 3 } else { 1 };
+                let sent = Sent { key: &key, package: &other };
+                assert_eq!(Both::empty(category).load_fast(&mut loads, sent, &device), wanted);
+            }
         }
-        t.finish(2, &[0]);
-        loads.finish(4, &[0, 1]);
-        finds.finish(2, &[0]);
+        t.finish(4, &[0]);
+        loads.finish(12, &[0, 1, 3]);
+        finds.finish(4, &[0]);
     }
 }

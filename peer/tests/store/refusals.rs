@@ -4,7 +4,7 @@ use crate::both::{device_of, Both, Sent, Signer};
 use peer::archive::{Category, CATEGORIES, CATEGORY_1};
 use peer::harness::Tally;
 use peer::line::cases::valid;
-use peer::line::{image, read_line, Profile};
+use peer::line::{image, read_line, Profile, Rate};
 use peer::rng::Rng;
 use peer::scheme::challenges;
 use peer::scheme::forge::Forger;
@@ -12,13 +12,16 @@ use peer::sizes::Sizes;
 use peer::store::{package_lengths, Device, STORE};
 
 const LINE: &[u8] = b"GP1,XA,B,12,230,50,1150,100,800,1500,1500,100,-2500,100\n";
-/// The same at a frequency that there is not, of another class, with a byte after the line feed, and
-/// without one.
-const BAD_LINES: [&[u8]; 4] = [
+/// The same at a frequency that there is not, of another class, with a byte after the line feed, without one; with a
+/// rate that is too low, and with the tag of the other kind before each number of fields.
+const BAD_LINES: [&[u8]; 7] = [
     b"GP1,XA,B,12,230,55,1150,100,800,1500,1500,100,-2500,100\n",
     b"GP1,XA,B,12,260,50,1150,100,800,1500,1500,100,-2500,100\n",
     b"GP1,XA,B,12,230,50,1150,100,800,1500,1500,100,-2500,100\n\n",
     b"GP1,XA,B,12,230,50,1150,100,800,1500,1500,100,-2500,100",
+    b"GP2,XA,B,12,230,50,1150,100,800,1500,1500,100,-2500,100,99,500\n",
+    b"GP1,XA,B,12,230,50,1150,100,800,1500,1500,100,-2500,100,2000,500\n",
+    b"GP2,XA,B,12,230,50,1150,100,800,1500,1500,100,-2500,100\n",
 ];
 
 /// What a signer claims beside honest rounds.
@@ -89,7 +92,7 @@ type Fault = (u8, &'static str, fn(&mut Input));
 /// Faults in the order in which they are looked at, each with its refusal and its place: two faults
 /// of one place cannot come together. A draw of these sizes is short for no input that can be found,
 /// so 2 is not among them.
-const FAULTS: [Fault; 42] = [
+const FAULTS: [Fault; 47] = [
     (10, "country", |i| i.country = b"Xa"),
     (10, "country", |i| i.country = b"[A"),
     (10, "country", |i| i.country = b""),
@@ -102,6 +105,8 @@ const FAULTS: [Fault; 42] = [
     (10, "class", |i| i.class = 66 + 256),
     (10, "class", |i| i.class = 66 + 65_536),
     (1, "image", |i| i.image.truncate(1_023)),
+    (1, "image", |i| i.image.truncate(1_024)),
+    (1, "image", |i| i.image.truncate(1_215)),
     (1, "image", |i| i.image.push(0)),
     (1, "image", |i| i.image.clear()),
     (1, "key size", |i| i.key.truncate(i.sizes.key() - 1)),
@@ -124,6 +129,9 @@ const FAULTS: [Fault; 42] = [
     (5, "line", |i| i.line = BAD_LINES[1]),
     (5, "line", |i| i.line = BAD_LINES[2]),
     (5, "line", |i| i.line = BAD_LINES[3]),
+    (5, "line", |i| i.line = BAD_LINES[4]),
+    (5, "line", |i| i.line = BAD_LINES[5]),
+    (5, "line", |i| i.line = BAD_LINES[6]),
     (6, "country", |i| i.country = b"XB"),
     (6, "country", |i| i.country = b"AX"),
     (6, "class", |i| i.class = 65),
@@ -186,7 +194,7 @@ fn pairs_at(category: &Category) {
             assert_eq!(answer(&[other, fault]), fault.0, "faults {at} and {later}");
         }
     }
-    t.finish(700, &[0, 1, 3, 4, 5, 6, 7, 8, 10]);
+    t.finish(1_032, &[0, 1, 3, 4, 5, 6, 7, 8, 10]);
 }
 
 #[test]
@@ -198,16 +206,18 @@ fn pairs_of_refusals() {
 #[test]
 fn lookups() {
     let (mut t, good) = (Tally::new("lookup, refusals"), at(*b"XA", b'B', 12));
+    let rates = [100, 99].map(|limit| holding(&[Profile { rate: Some(Rate { limit, delay: 20 }), ..good }]));
     let stored = [with_pair(12), with_pair(0), holding(&[Profile { volts: 260, ..good }]), vec![0; STORE]];
-    let sizes = [0, 64, 960, 1_023, 1_025, 2_048].map(|len| vec![0; len]);
-    let images = stored.iter().zip([0, 5, 5, 9]).chain(sizes.iter().zip([1; 6]));
+    let sizes = [0, 76, 1_140, 1_023, 1_024, 1_215, 1_217, 2_432].map(|len| vec![0; len]);
+    let held = rates.iter().chain(&stored).zip([0, 5, 0, 5, 5, 9]);
+    let images = held.chain(sizes.iter().zip([1; 8]));
     let countries: [(&[u8], u8); 7] =
         [(b"XA", 0), (b"XB", 9), (b"", 10), (b"X", 10), (b"XAA", 10), (b"xA", 10), (b"X@", 10)];
     for (image, of_image) in images {
         for (country, of_country) in countries {
             for (class, of_class) in [(66, 0), (68, 9), (64, 10), (69, 10), (66 + 256, 10), (66 + (1 << 24), 10)] {
-                for room in [72, 0, 1, 71, 73, 144] {
-                    let due = [of_country, of_class, u8::from(room != 72), of_image];
+                for room in [84, 0, 1, 71, 72, 73, 83, 85, 168] {
+                    let due = [of_country, of_class, u8::from(room != 84), of_image];
                     let wanted = [10, 1, 9].into_iter().find(|refusal| due.contains(refusal)).unwrap_or(of_image);
                     let answer = Both::from(&CATEGORY_1, image).lookup(&mut t, &Device { country, class }, room);
                     assert_eq!(answer, wanted, "{country:?} {class} {room}");
@@ -215,7 +225,7 @@ fn lookups() {
             }
         }
     }
-    t.finish(2_500, &[0, 1, 5, 9, 10]);
+    t.finish(5_292, &[0, 1, 5, 9, 10]);
 }
 
 /// Serial 12 after 12, then 13; a 17th pair; and the same country with another class stays apart.

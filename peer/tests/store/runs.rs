@@ -4,7 +4,7 @@ use crate::both::{device_of, devices, Both, Sent, Signer, COUNTRIES};
 use peer::archive::{Category, CATEGORIES};
 use peer::harness::Tally;
 use peer::line::cases::valid;
-use peer::line::{class_of, image, Profile, IMAGE};
+use peer::line::{class_of, image, Profile, IMAGE, LONGEST};
 use peer::rng::Rng;
 use peer::scheme;
 use peer::sizes::Sizes;
@@ -24,8 +24,8 @@ fn some_profile(rng: &mut Rng) -> Profile {
     Profile { country, serial: 1 + rng.below(6) as u32, ..valid(rng) }
 }
 
-/// A package, now and then with a signed line that breaks a rule, damaged, or under a key that is
-/// another one or none.
+/// A package, now and then with a signed line that breaks a rule or has the tag of the other kind, damaged, or
+/// under a key that is another one or none.
 fn post(s: &Sizes, rng: &mut Rng, signer: &Signer, other: &Signer, turn: usize) -> Post {
     let (profile, mut key) = (some_profile(rng), signer.key.clone());
     let mut package = signer.package_of(rng, &profile);
@@ -36,6 +36,11 @@ fn post(s: &Sizes, rng: &mut Rng, signer: &Signer, other: &Signer, turn: usize) 
         3 => *package.last_mut().expect("a line") = b'9',
         4 => key.clone_from(&other.key),
         5 => key[s.key_seed + rng.below(s.packed_syndrome())] = 0xFF,
+        6 => {
+            let mut line = package.split_off(s.signature());
+            line[2] ^= b'1' ^ b'2';
+            package = signer.package(rng, &line);
+        }
         _ => (),
     }
     let (signature, line) = package.split_at(s.signature());
@@ -114,7 +119,7 @@ impl Run<'_> {
             0 => NO_DEVICES[self.rng.below(NO_DEVICES.len())],
             _ => (&COUNTRIES[self.rng.below(6)][..], class),
         };
-        let room = if self.rng.below(2) == 0 { self.rng.below(100) } else { 72 };
+        let room = if self.rng.below(2) == 0 { self.rng.below(100) } else { LONGEST };
         self.both.lookup(t, &Device { country, class }, room);
     }
 }

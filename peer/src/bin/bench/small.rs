@@ -1,14 +1,18 @@
-//! Rows of the small entries: SHAKE, samples, packing.
+//! Rows of the small entries: SHAKE, samples, packing, lines.
 
 use crate::measure::least;
+use crate::scheme::LINE;
 use crate::stacks::Stacks;
 use crate::table::{print, Row};
 use peer::archive::{self, Category};
+use peer::entries;
 use peer::fast::keccak::shake;
 use peer::fast::packing as plain_packing;
 use peer::harness::Function;
 use peer::keccak::{SHAKE128_RATE, SHAKE256_RATE};
+use peer::line::{image, read_line, write_line, Profile, Rate, IMAGE, LONGEST};
 use peer::openssl::{self, Shake};
+use peer::preview::cases::EXAMPLE;
 use peer::rng::Rng;
 use peer::sizes::{Sizes, CATEGORY_1, CATEGORY_3, CATEGORY_5};
 use std::ffi::CStr;
@@ -30,7 +34,7 @@ struct Job<'a> {
     plain: Function,
 }
 
-fn row(stacks: &Stacks, job: Job) {
+fn row(stacks: &Stacks, job: Job) -> Row {
     let Job { entry, inputs, out_len, proved, plain } = job;
     let (mut out, mut other_out) = (vec![0; out_len], vec![0; out_len]);
     for input in inputs {
@@ -45,7 +49,7 @@ fn row(stacks: &Stacks, job: Job) {
     };
     let times = least(INPUTS, INPUTS, &mut [&mut library, &mut other]);
     let (library, plain, stack) = (times[0], times[1], stacks.of(&entry));
-    print(&Row { name: entry, library, plain, stack, ..Row::default() });
+    Row { name: entry, library, plain, stack, ..Row::default() }
 }
 
 /// One of the two hashes in each program, and the categories that have it.
@@ -144,7 +148,7 @@ pub fn sampling(category: &Category, rng: &mut Rng, stacks: &Stacks) {
     for (entry, block, out_len, proved, plain) in samples(category) {
         let inputs = many(|| rng.bytes(block));
         let proved = |block: &[u8], out: &mut [u8]| proved(category, block, out);
-        row(stacks, Job { entry: category.name_in_c(entry), inputs: &inputs, out_len, proved: &proved, plain });
+        print(&row(stacks, Job { entry: category.name_in_c(entry), inputs: &inputs, out_len, proved: &proved, plain }));
     }
 }
 
@@ -158,7 +162,7 @@ fn packing_of(rng: &mut Rng, stacks: &Stacks, limit: usize, packed_len: usize, p
     };
     let packed: Vec<Vec<u8>> = numbers.iter().map(packed).collect();
     for (inputs, out_len, (entry, proved, plain)) in [(numbers, packed_len, pack), (packed, CATEGORY_1.n, unpack)] {
-        row(stacks, Job { entry: entry.to_string(), inputs: &inputs, out_len, proved: &proved, plain });
+        print(&row(stacks, Job { entry: entry.to_string(), inputs: &inputs, out_len, proved: &proved, plain }));
     }
 }
 
@@ -174,4 +178,27 @@ pub fn packing(rng: &mut Rng, stacks: &Stacks) {
     let unpack =
         ("unpack_exponents", archive::unpack_exponents as Function, plain_packing::unpack_exponents as Function);
     packing_of(rng, stacks, 7, s.packed_exponents(), pack, unpack);
+}
+
+const READ: Pair = ("read_line", archive::read_line, entries::read_line);
+const WRITE: Pair = (
+    "write_line",
+    |image, line| archive::write_line(image, line, 0).0,
+    |image, line| entries::write_line(image, line, 0).0,
+);
+
+/// The usual line of each kind, read and written, for many countries.
+pub fn lines(stacks: &Stacks) {
+    let usual = read_line(&EXAMPLE.as_bytes()[..LINE]).expect("a line");
+    let country = |at: usize| [b'A' + (at / 26) as u8, b'A' + (at % 26) as u8];
+    let (line, image) = (|p: &Profile| write_line(p).expect("valid"), |p: &Profile| image(p).to_vec());
+    let entries = [(line as fn(&Profile) -> Vec<u8>, IMAGE, READ), (image, LONGEST, WRITE)];
+    for (input, out_len, (entry, proved, plain)) in entries {
+        for (kind, rate) in [("GP1", None), ("GP2", Some(Rate { limit: 2_000, delay: 500 }))] {
+            let profiles = (0..INPUTS).map(|at| Profile { country: country(at), rate, ..usual });
+            let inputs: Vec<Vec<u8>> = profiles.map(|profile| input(&profile)).collect();
+            let job = Job { entry: entry.to_string(), inputs: &inputs, out_len, proved: &proved, plain };
+            print(&Row { name: format!("{entry}, {kind}"), ..row(stacks, job) });
+        }
+    }
 }

@@ -1,11 +1,11 @@
 //! Inputs for packages, loading and lookups. The fast plain program signs and verifies.
 
 use crate::lent::shown;
-use crate::lines::line;
+use crate::lines::{self, line};
 use crate::turn::{damaged, number, resized, size, Turn};
 use crate::world::Package;
 use peer::archive::c;
-use peer::line::cases::{any_image, valid};
+use peer::line::cases::{some_rate, valid};
 use peer::line::{image, read_line, write_line, Profile, IMAGE, LONGEST, SHORTEST};
 use peer::rng::Rng;
 use peer::sizes::Sizes;
@@ -19,7 +19,7 @@ fn longest_package(s: &Sizes) -> usize {
 pub fn make_package(t: &mut Turn) -> u8 {
     let whole = t.one_in(50);
     let seeds = t.seeds(if whole { 16 } else { 8 });
-    let line = if whole { write_line(&valid(&mut t.rng)).expect("valid") } else { line(&mut t.rng) };
+    let line = if whole { write_line(&lines::profile(&mut t.rng)).expect("valid") } else { line(&mut t.rng) };
     let room = t.size_of(longest_package, if whole { 16 } else { 12 });
     compare_make_package(t, &seeds, &line, room)
 }
@@ -44,7 +44,7 @@ fn compare_make_package(t: &mut Turn, seeds: &[Vec<u8>; 3], line: &[u8], room: u
 
 /// A used slot of a pair that no package has: a valid profile, or what no load stores.
 fn slot(rng: &mut Rng, at: usize) -> [u8; IMAGE] {
-    let mut slot = if rng.below(8) == 0 { any_image(rng) } else { image(&valid(rng)) };
+    let mut slot = if rng.below(8) == 0 { lines::image(rng) } else { image(&valid(rng)) };
     slot[0] = [1, 1, 1, 0xFF][rng.below(4)];
     slot[1..3].copy_from_slice(&[b'A' + at as u8, b'q']);
     if rng.below(8) > 0 {
@@ -54,14 +54,15 @@ fn slot(rng: &mut Rng, at: usize) -> [u8; IMAGE] {
 }
 
 /// A store's image: slots used or free, in any order, no pair in two of them, and mostly one for the
-/// pair of `profile`, with a serial that is less, equal or greater.
+/// pair of `profile`, with a serial that is less, equal or greater, and its rate point, another or none.
 fn store_image(rng: &mut Rng, profile: &Profile) -> Vec<u8> {
     let (filled, own) = (rng.below(3) * 8, rng.below(CAPACITY * 3 / 2));
     let mut bytes = Vec::new();
     for at in 0..CAPACITY {
         if at == own {
             let serial = [profile.serial - 1, profile.serial, profile.serial + 1][rng.below(3)];
-            bytes.extend(image(&Profile { serial, ..*profile }));
+            let rate = [profile.rate, Some(some_rate(rng)), None][rng.below(3)];
+            bytes.extend(image(&Profile { serial, rate, ..*profile }));
         } else if filled == CAPACITY || rng.below(CAPACITY) < filled {
             bytes.extend(slot(rng, at));
         } else {

@@ -1,8 +1,8 @@
 //! What the expensive inputs are made from: keys, signatures, rounds and packages that hold.
 
 use peer::archive::{Category, CATEGORIES};
-use peer::line::cases::valid;
-use peer::line::{write_line, Profile};
+use peer::line::cases::{by_length, valid};
+use peer::line::{write_line, Profile, LONGEST, SHORTEST};
 use peer::rng::Rng;
 use peer::scheme::cases::Committed;
 use peer::scheme::RoundCase;
@@ -41,7 +41,7 @@ pub fn worlds(seed: u64) -> Worlds {
 /// that the first challenges are hashed from. The first ones are short.
 fn messages(s: &Sizes) -> [usize; 12] {
     let end = s.rate - (1 + s.digest + s.salt) % s.rate;
-    [0, 0, 1, 42, 56, 72, end - 1, end, end + 1, 1_000, 4_096, s.message]
+    [0, 0, 1, SHORTEST, 56, LONGEST, end - 1, end, end + 1, 1_000, 4_096, s.message]
 }
 pub const SHORT_MESSAGES: usize = 9;
 
@@ -70,14 +70,24 @@ fn rounds(s: &Sizes, rng: &mut Rng) -> [RoundCase; 2] {
     [0, 1].map(|second| committed.case(s, 1 + rng.below(126) as u8, second))
 }
 
-/// A signed line of a country with a second letter from A to J. Every sixth breaks a rule: a signer may
-/// sign anything.
-fn package(category: &Category, rng: &mut Rng, seed: &[u8], at: usize) -> Package {
-    let country = [b'A' + rng.below(26) as u8, b'A' + rng.below(10) as u8];
-    let profile = Profile { country, serial: 2 + rng.below(1_000) as u32, ..valid(rng) };
+/// Profiles of countries with a second letter from A to J; the last have the shortest and the longest line of a kind.
+fn profiles(rng: &mut Rng) -> Vec<Profile> {
+    let drawn = (0..20).map(|_| {
+        let country = [b'A' + rng.below(26) as u8, b'A' + rng.below(10) as u8];
+        Profile { country, serial: 2 + rng.below(1_000) as u32, ..valid(rng) }
+    });
+    let ends = [false, true].map(by_length).map(|all| [all[0], all[all.len() - 1]]);
+    drawn.chain(ends.concat()).collect()
+}
+
+/// A profile's line, signed. Every sixth breaks a rule, in turns by a comma and by the tag of the other kind: a signer
+/// may sign anything.
+fn package(category: &Category, rng: &mut Rng, seed: &[u8], (at, profile): (usize, Profile)) -> Package {
     let mut line = write_line(&profile).expect("valid");
-    if at % 6 == 0 {
-        line[3] = b';';
+    match at % 12 {
+        0 => line[3] = b';',
+        6 => line[2] ^= b'1' ^ b'2',
+        _ => (),
     }
     let bytes = [sign(category, rng, seed, &line), line].concat();
     Package { profile, bytes }
@@ -90,7 +100,7 @@ impl World {
         World {
             category,
             key: make_key(category, &seed),
-            packages: (0..24).map(|at| package(category, rng, &seed, at)).collect(),
+            packages: profiles(rng).into_iter().enumerate().map(|one| package(category, rng, &seed, one)).collect(),
             signed: messages(s).iter().map(|&len| signed(category, rng, len)).collect(),
             rounds: (0..8).flat_map(|_| rounds(s, rng)).collect(),
         }
