@@ -1,4 +1,4 @@
-pub mod Rotate
+pub mod Products
 pub mod Congruence
 pub mod Inverse
 pub mod Place

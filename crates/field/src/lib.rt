@@ -1,8 +1,12 @@
 // Values modulo 127 and exponents modulo 7, as two types: an exponent is never taken where a value is meant.
-// Every product with a power of 2 goes through times_power, every reduction through reduce.
+// Every product with a power of 2 is read from one table, by times_power_with; every reduction goes through reduce.
+pub mod table;
+
+use crate::table::PRODUCTS;
 ghost use mathlib.Core.Path.{_≡_};
 ghost use Prim.Native.Nat.{_+_, _*_, _%_, _<_};
 ghost use Rattle.field.specs.Field.{power, timesPower, respond as respondOf, less as lessOf, minus as minusOf};
+ghost use Rattle.field.specs.InnerProducts.{Products, Multiples};
 
 // A value modulo 127, from 0 to 126.
 pub struct Value(pub u8);
@@ -10,13 +14,45 @@ pub struct Value(pub u8);
 // An exponent modulo 7, from 0 to 6; it stands for a power of 2.
 pub struct Exponent(pub u8);
 
-// 2^a times x. Modulo 127 a shift is a rotation of seven bits: what passes bit 7 comes in again below.
+// The table of products. A constant is copied where it is used: a vector asks for the table once and lends it.
+pub fn product_table() -> [u8; 889]
+    ensures { λ t. ⌜ Products t ⌝ }
+{
+    PRODUCTS
+}
+
+// 2^a times x, from a lent table.
+pub fn times_power_with(table: &[u8; 889], a: Exponent, x: Value) -> Value
+    requires { ⌜ Products (now table) × (a .0 < 7) × (x .0 < 127) ⌝ }
+    ensures { λ r. ⌜ r .0 ≡ timesPower (a .0) (x .0) ⌝ }
+{
+    Value(table[(a.0 as usize) * 127 + x.0 as usize])
+}
+
+// 2^a times x, for one product alone.
 pub fn times_power(a: Exponent, x: Value) -> Value
     requires { ⌜ (a .0 < 7) × (x .0 < 127) ⌝ }
     ensures { λ r. ⌜ r .0 ≡ timesPower (a .0) (x .0) ⌝ }
 {
-    let shifted = (x.0 as u16) << a.0;
-    Value((shifted % 128 + shifted / 128) as u8)
+    let table = product_table();
+    times_power_with(&table, a, x)
+}
+
+// x times each of the seven powers, the first with exponent 0.
+pub fn multiples(x: Value) -> [u8; 7]
+    requires { ⌜ x .0 < 127 ⌝ }
+    ensures { λ t. ⌜ Multiples (x .0) t ⌝ }
+{
+    let table = product_table();
+    [
+        times_power_with(&table, Exponent(0), x).0,
+        times_power_with(&table, Exponent(1), x).0,
+        times_power_with(&table, Exponent(2), x).0,
+        times_power_with(&table, Exponent(3), x).0,
+        times_power_with(&table, Exponent(4), x).0,
+        times_power_with(&table, Exponent(5), x).0,
+        times_power_with(&table, Exponent(6), x).0,
+    ]
 }
 
 // A sum modulo 127.

@@ -6,3 +6,4 @@ pub mod Opening
 pub mod Kept
 pub mod Loops
 pub mod Rows
+pub mod Steps

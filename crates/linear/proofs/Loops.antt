@@ -6,7 +6,7 @@ use native.Mathlib.Nat.{le-of-suc-le-suc}
 use native.Mathlib.Numerals.{add-one}
 use native.Mathlib.Omega.{arith}
 use lib.ListN.{length, take, drop, set, getD, length-append, length-take, length-drop}
-use lib.Seq.{take-all, length-take-le}
+use lib.Seq.{take-all, length-take-le, drop-cons, getD-at}
 use Rattle.outcome.proofs.Filled.{filled-more, filled-end}
 use Rattle.linear.proofs.Sizes.{length-places}
 
@@ -56,6 +56,13 @@ module _ (f : ℕ → ℕ → ℕ) (a b o : List ℕ) where
   pub length-held : (out : List ℕ) (i : ℕ) → out ≡ zipped f a b o i → i ≤ length a → length b ≡ length a → length o ≡ length a
       → length out ≡ length o
   length-held out i e h eb eo = ap length e ∙ length-zipped i h eb eo
+
+  -- what such a buffer holds at the next place is what it held
+  pub zipped-next : (out : List ℕ) (i : ℕ) → out ≡ zipped f a b o i → i < length a → length b ≡ length a → length o ≡ length a
+      → getD out i 0 ≡ getD o i 0
+  zipped-next out i e ha eb eo =
+      ap (λ (l : List ℕ). getD l i 0) e ∙ rw (drop-cons o i 0 (omega arith))
+      (getD-at (zipWith f (take i a) (take i b)) (getD o i 0) (drop (suc i) o) 0 i (front i (omega arith) (omega arith)))
 
 -- a map is a zip that does not look at the second list
 pub map-zip : (f : ℕ → ℕ) (a : List ℕ) → zipWith (λ x y. f x) a a ≡ map f a

@@ -1,4 +1,5 @@
 // Vectors place by place, and the syndrome. A vector is a slice of bytes; each place goes through field's functions.
+// The table of products is copied once for a vector.
 use field::Exponent;
 use field::Value;
 ghost use mathlib.Core.Path.{_≡_};
@@ -8,17 +9,39 @@ ghost use lib.ListN.{length};
 ghost use Rattle.packing.specs.Packing.{allBelow};
 ghost use Rattle.linear.specs.Linear.{powers as powersOf, scaled, response, transformation, lessTimes};
 ghost use Rattle.linear.specs.Linear.{dot, syndrome as syndromeOf};
+ghost use Rattle.linear.specs.InnerSteps.{multiplied, added};
+
+// b times the powers of exponents; all seven products are looked up first.
+fn multiply(b: Value, es: &[u8], out: &mut [u8])
+    requires { ⌜ (b .0 < 127) × (length (now out) ≡ length (now es)) × T (allBelow 7 (now es)) ⌝ }
+    ensures { λ r. ⌜ now (out .exit) ≡ multiplied (b .0) (now (es .entry)) ⌝ }
+{
+    let products = field::multiples(b);
+    let mut i = 0;
+    while i < es.len() {
+        out[i] = products[es[i] as usize];
+        i += 1;
+    }
+}
+
+// The sums of two vectors, in place of the second.
+fn add(u: &[u8], out: &mut [u8])
+    requires { ⌜ length (now out) ≡ length (now u) ⌝ }
+    ensures { λ r. ⌜ now (out .exit) ≡ added (now (u .entry)) (now (out .entry)) ⌝ }
+{
+    let mut i = 0;
+    while i < u.len() {
+        out[i] = field::reduce(u[i] as u32 + out[i] as u32).0;
+        i += 1;
+    }
+}
 
 // The powers of exponents.
 pub fn powers(es: &[u8], out: &mut [u8])
     requires { ⌜ (length (now out) ≡ length (now es)) × T (allBelow 7 (now es)) ⌝ }
     ensures { λ r. ⌜ now (out .exit) ≡ powersOf (now (es .entry)) ⌝ }
 {
-    let mut i = 0;
-    while i < es.len() {
-        out[i] = field::raise(Exponent(es[i])).0;
-        i += 1;
-    }
+    multiply(Value(1), es, out);
 }
 
 // 2^a times x.
@@ -27,9 +50,10 @@ pub fn scale(a: &[u8], x: &[u8], out: &mut [u8])
         × T (allBelow 127 (now x)) ⌝ }
     ensures { λ r. ⌜ now (out .exit) ≡ scaled (now (a .entry)) (now (x .entry)) ⌝ }
 {
+    let table = field::product_table();
     let mut i = 0;
     while i < a.len() {
-        out[i] = field::times_power(Exponent(a[i]), Value(x[i])).0;
+        out[i] = field::times_power_with(&table, Exponent(a[i]), Value(x[i])).0;
         i += 1;
     }
 }
@@ -40,11 +64,8 @@ pub fn respond(b: Value, u: &[u8], e: &[u8], out: &mut [u8])
         × T (allBelow 127 (now u)) × T (allBelow 7 (now e)) ⌝ }
     ensures { λ r. ⌜ now (out .exit) ≡ response (b .0) (now (u .entry)) (now (e .entry)) ⌝ }
 {
-    let mut i = 0;
-    while i < u.len() {
-        out[i] = field::respond(b, Value(u[i]), Exponent(e[i])).0;
-        i += 1;
-    }
+    multiply(b, e, out);
+    add(u, out);
 }
 
 // The key exponents minus the mask exponents.
@@ -88,7 +109,8 @@ fn row_sum_of(row: &[u8], x: &[u8], k: usize) -> u32
     sum
 }
 
-// The same for every length. Those in use, of categories 1, 3 and 5, are named, so that each has a loop with its constant.
+// The same for every length. Those in use, of categories 1, 3 and 5, are named, so that each has a loop with its
+// constant.
 pub fn row_sum(row: &[u8], x: &[u8]) -> u32
     requires { ⌜ (length (now row) ≡ length (now x)) × (length (now x) ≤ 4096) × T (allBelow 127 (now row))
         × T (allBelow 127 (now x)) ⌝ }

@@ -1,6 +1,6 @@
 -- `raise`: the power itself is below 127. Assumes nothing.
 use mathlib.Core.Path.{_∙_}
-use Rattle.field.proofs.Rotate.{power-value}
+use Rattle.field.proofs.Products.{power-value}
 use borrow.Author.Needs.{needs}
 use Rattle.field.proofs.raise.Statement.{statement}
 use Rattle.field.proofs.raise.Tie as tie
