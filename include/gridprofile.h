@@ -221,7 +221,7 @@ uint8_t gridprofile_verify(const uint8_t *key, size_t key_len, const uint8_t *me
  * GRIDPROFILE_ROUNDS, first_challenge not 1 to 126 or second_challenge not 0 or 1; with 2 where the
  * draw of the matrix is short; with 3 where the reply has a bad field or with 2 where a draw from
  * its seed is short; last with 4 where commitment or response differs.
- * Stack: 11776 bytes. */
+ * Stack: 11968 bytes. */
 uint8_t gridprofile_verify_round(const uint8_t *key, size_t key_len, const uint8_t *salt,
                                  size_t salt_len, uint32_t round, const uint8_t *commitment_0,
                                  size_t commitment_0_len, const uint8_t *commitment_1,

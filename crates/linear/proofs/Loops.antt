@@ -5,7 +5,7 @@ use Prim.Native.Nat.{ℕ, zero, suc, _+_, _≤_, _<_}
 use native.Mathlib.Nat.{le-of-suc-le-suc}
 use native.Mathlib.Numerals.{add-one}
 use native.Mathlib.Omega.{arith}
-use lib.ListN.{length, take, drop, set, getD, length-append, length-take, length-drop}
+use lib.ListN.{length, take, drop, set, getD, length-append, length-drop}
 use lib.Seq.{take-all, length-take-le, drop-cons, getD-at}
 use Rattle.outcome.proofs.Filled.{filled-more, filled-end}
 use Rattle.linear.proofs.Sizes.{length-places}

@@ -1,4 +1,5 @@
--- Looked up products are the multiples that are meant; powers are multiples of 1, and responses are sums with multiples. Assumes nothing.
+-- Products that were looked up are the multiples that are meant; powers are multiples of 1; responses are sums with them.
+-- Assumes nothing.
 use mathlib.Core.Path.{_≡_, refl, _∙_, ap}
 use mathlib.Core.List.{List, [], _∷_, map, zipWith}
 use Prim.Native.Nat.{ℕ, _+_, _%_, _<_}

@@ -1,5 +1,5 @@
-// Vectors place by place, and the syndrome. A vector is a slice of bytes; each place goes through field's functions.
-// The table of products is copied once for a vector.
+// Vectors place by place, and the syndrome. A vector is a slice of bytes; each place goes through field's functions, or
+// reads what they looked up before the loop. The table of products is copied once for a vector.
 use field::Exponent;
 use field::Value;
 ghost use mathlib.Core.Path.{_≡_};

@@ -1,5 +1,5 @@
 -- `add`: after i places the buffer holds the first i sums, then what it held. Assumes nothing.
-use mathlib.Core.Path.{_≡_, refl, _∙_, ap}
+use mathlib.Core.Path.{_≡_, _∙_, ap}
 use Prim.Native.Nat.{ℕ, _≤_, _-_, _+_, _%_}
 use native.Mathlib.Omega.{arith}
 use lib.ListN.{length, getD}

@@ -1,7 +1,5 @@
 -- `respond`: u plus the multiples of b. Assumes nothing.
 use mathlib.Core.Path.{_∙_, ap}
-use mathlib.Core.List.{List}
-use Prim.Native.Nat.{ℕ}
 use borrow.Author.Needs.{needs}
 use Rattle.linear.specs.InnerSteps.{added}
 use Rattle.linear.proofs.Steps.{response-added}
