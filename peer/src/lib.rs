@@ -23,3 +23,4 @@ pub mod store;
 pub mod strings;
 pub mod toy;
 pub mod vectors;
+pub mod zeros;

@@ -8,10 +8,10 @@ use crate::strings;
 use crate::vectors::{less_times, powers, response, scaled, syndrome, transformation};
 
 /// What a private seed stands for.
-struct SecretKey {
-    public_seed: Vec<u8>,
-    matrix: Vec<u8>,
-    exponents: Vec<u8>,
+pub struct SecretKey {
+    pub public_seed: Vec<u8>,
+    pub matrix: Vec<u8>,
+    pub exponents: Vec<u8>,
 }
 
 fn draw_matrix(s: &Sizes, public_seed: &[u8]) -> Result<Vec<u8>, Refusal> {
@@ -39,7 +39,7 @@ fn draw_second_challenge(
     shuffle(&s.bytes_from(&string, s.second_challenge_block), s.t, s.w)
 }
 
-fn secret_key(s: &Sizes, private_seed: &[u8]) -> Result<SecretKey, Refusal> {
+pub fn secret_key(s: &Sizes, private_seed: &[u8]) -> Result<SecretKey, Refusal> {
     let seeds = s.bytes_from(&strings::key_seeds(private_seed), 2 * s.key_seed);
     let (secret_seed, public_seed) = seeds.split_at(s.key_seed);
     let matrix = draw_matrix(s, public_seed)?;
@@ -59,9 +59,9 @@ pub fn make_key(s: &Sizes, private_seed: &[u8], key: &mut [u8]) -> u8 {
 }
 
 /// The two parts of a round's mask, drawn from the round's seed.
-struct Mask {
-    exponents: Vec<u8>,
-    values: Vec<u8>,
+pub(crate) struct Mask {
+    pub(crate) exponents: Vec<u8>,
+    pub(crate) values: Vec<u8>,
 }
 
 fn draw_mask(s: &Sizes, seed: &[u8], salt: &[u8], round: usize) -> Result<Mask, Refusal> {
@@ -72,10 +72,10 @@ fn draw_mask(s: &Sizes, seed: &[u8], salt: &[u8], round: usize) -> Result<Mask, 
 }
 
 /// A round as the signer makes it, before the challenges.
-struct Round {
+pub(crate) struct Round {
     seed: Vec<u8>,
-    mask: Mask,
-    transformation: Vec<u8>,
+    pub(crate) mask: Mask,
+    pub(crate) transformation: Vec<u8>,
     commitment_0: Vec<u8>,
     commitment_1: Vec<u8>,
 }
@@ -120,7 +120,7 @@ fn signed(s: &Sizes, private_seed: &[u8], master_seed: &[u8], salt: &[u8], messa
 }
 
 /// Every round before the challenges.
-fn committed(s: &Sizes, secret: &SecretKey, master_seed: &[u8], salt: &[u8]) -> Result<Vec<Round>, Refusal> {
+pub(crate) fn committed(s: &Sizes, secret: &SecretKey, master_seed: &[u8], salt: &[u8]) -> Result<Vec<Round>, Refusal> {
     let seeds = s.bytes_from(&strings::round_seeds(master_seed, salt), s.t * s.round_seed);
     let seed = |i: usize| &seeds[(i - 1) * s.round_seed..i * s.round_seed];
     (1..=s.t).map(|i| commit(s, secret, seed(i), salt, i)).collect()

@@ -2,3 +2,4 @@ pub mod Products
 pub mod Congruence
 pub mod Inverse
 pub mod Place
+pub mod Folds

@@ -56,6 +56,7 @@ fn write_key(p: Params, public: &[u8], vs: &[u8], es: &[u8], key: &mut [u8])
     let mut s = [0u8; PLACES];
     linear::powers(es, &mut x[..n]);
     linear::syndrome(k, vs, &x[..n], &mut s[..rows]);
+    linear::normalize(&mut s[..rows]);
     buffers::copy(&mut key[..d], public);
     expand::pack_values(&s[..rows], &mut key[d..]);
 }

@@ -7,3 +7,4 @@ pub mod Kept
 pub mod Loops
 pub mod Rows
 pub mod Steps
+pub mod Spelled

@@ -26,6 +26,11 @@ unfolding multiplied
 multiples-multiplied b t rule es low =
     map-below 7 (λ (e : ℕ). getD t e 0) (λ (e : ℕ). timesPower e b) (multiple-at b t rule) es (below 7 es low)
 
+pub below-multiplied : (b : ℕ) (es : List ℕ) → Below 127 (multiplied b es)
+unfolding multiplied
+below-multiplied b [] = none
+below-multiplied b (e ∷ es) = more {x = timesPower e b} (omega arith) (below-multiplied b es)
+
 pub powers-multiplied : (es : List ℕ) → T (allBelow 7 es) → multiplied 1 es ≡ powers es
 unfolding multiplied powers
 powers-multiplied es low = map-below 7 (λ (e : ℕ). timesPower e 1) power power-value es (below 7 es low)

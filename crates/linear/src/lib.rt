@@ -1,15 +1,18 @@
 // Vectors place by place, and the syndrome. A vector is a slice of bytes; each place goes through field's functions, or
-// reads what they looked up before the loop. The table of products is copied once for a vector.
+// reads what they looked up before the loop. The table of products is copied once for a vector. Sums come out loose, with
+// 127 as well as 0 for zero: normalize gives them the one spelling that is hashed, compared or written.
 use field::Exponent;
+use field::Loose;
 use field::Value;
 ghost use mathlib.Core.Path.{_≡_};
-ghost use Prim.Native.Nat.{_+_, _-_, _*_, _%_, _<_, _≤_};
+ghost use Prim.Native.Nat.{_+_, _*_, _%_, _<_, _≤_};
 ghost use lib.Dec.{T};
 ghost use lib.ListN.{length};
 ghost use Rattle.packing.specs.Packing.{allBelow};
 ghost use Rattle.linear.specs.Linear.{powers as powersOf, scaled, response, transformation, lessTimes};
 ghost use Rattle.linear.specs.Linear.{dot, syndrome as syndromeOf};
 ghost use Rattle.linear.specs.InnerSteps.{multiplied, added};
+ghost use Rattle.linear.specs.InnerLoose.{Loose as LooseOf, residues};
 
 // b times the powers of exponents; all seven products are looked up first.
 fn multiply(b: Value, es: &[u8], out: &mut [u8])
@@ -26,12 +29,12 @@ fn multiply(b: Value, es: &[u8], out: &mut [u8])
 
 // The sums of two vectors, in place of the second.
 fn add(u: &[u8], out: &mut [u8])
-    requires { ⌜ length (now out) ≡ length (now u) ⌝ }
-    ensures { λ r. ⌜ now (out .exit) ≡ added (now (u .entry)) (now (out .entry)) ⌝ }
+    requires { ⌜ (length (now out) ≡ length (now u)) × T (allBelow 128 (now u)) × T (allBelow 128 (now out)) ⌝ }
+    ensures { λ r. ⌜ LooseOf (added (now (u .entry)) (now (out .entry))) (now (out .exit)) ⌝ }
 {
     let mut i = 0;
     while i < u.len() {
-        out[i] = field::reduce(u[i] as u32 + out[i] as u32).0;
+        out[i] = field::plus(Loose(u[i]), Loose(out[i])).0;
         i += 1;
     }
 }
@@ -62,7 +65,7 @@ pub fn scale(a: &[u8], x: &[u8], out: &mut [u8])
 pub fn respond(b: Value, u: &[u8], e: &[u8], out: &mut [u8])
     requires { ⌜ (b .0 < 127) × (length (now out) ≡ length (now u)) × (length (now e) ≡ length (now u))
         × T (allBelow 127 (now u)) × T (allBelow 7 (now e)) ⌝ }
-    ensures { λ r. ⌜ now (out .exit) ≡ response (b .0) (now (u .entry)) (now (e .entry)) ⌝ }
+    ensures { λ r. ⌜ LooseOf (response (b .0) (now (u .entry)) (now (e .entry))) (now (out .exit)) ⌝ }
 {
     multiply(b, e, out);
     add(u, out);
@@ -81,40 +84,57 @@ pub fn transform(a: &[u8], e: &[u8], out: &mut [u8])
     }
 }
 
-// x − b · s.
+// x − b · s, where x may be loose.
 pub fn subtract(b: Value, x: &[u8], s: &[u8], out: &mut [u8])
     requires { ⌜ (b .0 < 127) × (length (now out) ≡ length (now x)) × (length (now s) ≡ length (now x))
-        × T (allBelow 127 (now x)) × T (allBelow 127 (now s)) ⌝ }
-    ensures { λ r. ⌜ now (out .exit) ≡ lessTimes (b .0) (now (x .entry)) (now (s .entry)) ⌝ }
+        × T (allBelow 128 (now x)) × T (allBelow 127 (now s)) ⌝ }
+    ensures { λ r. ⌜ LooseOf (lessTimes (b .0) (now (x .entry)) (now (s .entry))) (now (out .exit)) ⌝ }
 {
     let mut i = 0;
     while i < x.len() {
-        out[i] = field::less(b, Value(x[i]), Value(s[i])).0;
+        out[i] = field::less(b, Loose(x[i]), Value(s[i])).0;
         i += 1;
     }
 }
 
-// A row of V times the first places of a vector, up to a multiple of 127; both have k places.
-fn row_sum_of(row: &[u8], x: &[u8], k: usize) -> u32
-    requires { ⌜ (length (now row) ≡ k) × (length (now x) ≡ k) × (k ≤ 4096) × T (allBelow 127 (now row))
-        × T (allBelow 127 (now x)) ⌝ }
-    ensures { λ r. ⌜ (r % 127 ≡ dot (now (row .entry)) (now (x .entry)) % 127) × (r ≤ 4096 * 15876) ⌝ }
+// a times x plus b times y, up to a multiple of 127; all four have h places. Two products fit 16 bits, and the sum of 128
+// such pairs does where each is folded: so eight places go at once, where a sum of 32 bits lets four go.
+fn pair_sum(a: &[u8], x: &[u8], b: &[u8], y: &[u8], h: usize) -> u16
+    requires { ⌜ (length (now a) ≡ h) × (length (now x) ≡ h) × (length (now b) ≡ h) × (length (now y) ≡ h) × (h ≤ 128) ⌝ }
+    requires { ⌜ T (allBelow 127 (now a)) × T (allBelow 127 (now x)) × T (allBelow 127 (now b)) × T (allBelow 127 (now y)) ⌝ }
+    ensures { λ r. ⌜ (r % 127 ≡ (dot (now (a .entry)) (now (x .entry)) + dot (now (b .entry)) (now (y .entry))) % 127)
+        × (r ≤ 48000) ⌝ }
 {
-    let mut sum = 0u32;
+    let mut sum = 0u16;
     let mut i = 0;
-    while i < k {
-        sum += (row[i] as u32) * (x[i] as u32);
+    while i < h {
+        sum += field::fold((a[i] as u16) * (x[i] as u16) + (b[i] as u16) * (y[i] as u16));
         i += 1;
     }
     sum
 }
 
+// A row of V times the first places of a vector, up to a multiple of 127; both have k places.
+fn row_sum_of(row: &[u8], x: &[u8], k: usize) -> u16
+    requires { ⌜ (length (now row) ≡ k) × (length (now x) ≡ k) × (k ≤ 256) × T (allBelow 127 (now row))
+        × T (allBelow 127 (now x)) ⌝ }
+    ensures { λ r. ⌜ (r % 127 ≡ dot (now (row .entry)) (now (x .entry)) % 127) × (r ≤ 65000) ⌝ }
+{
+    let h = k / 2;
+    let even = h + h;
+    let pairs = pair_sum(&row[..h], &x[..h], &row[h..even], &x[h..even], h);
+    if even < k {
+        return pairs + (row[even] as u16) * (x[even] as u16);
+    }
+    pairs
+}
+
 // The same for every length. Those in use, of categories 1, 3 and 5, are named, so that each has a loop with its
 // constant.
-pub fn row_sum(row: &[u8], x: &[u8]) -> u32
-    requires { ⌜ (length (now row) ≡ length (now x)) × (length (now x) ≤ 4096) × T (allBelow 127 (now row))
+pub fn row_sum(row: &[u8], x: &[u8]) -> u16
+    requires { ⌜ (length (now row) ≡ length (now x)) × (length (now x) ≤ 256) × T (allBelow 127 (now row))
         × T (allBelow 127 (now x)) ⌝ }
-    ensures { λ r. ⌜ (r % 127 ≡ dot (now (row .entry)) (now (x .entry)) % 127) × (r ≤ 4096 * 15876) ⌝ }
+    ensures { λ r. ⌜ (r % 127 ≡ dot (now (row .entry)) (now (x .entry)) % 127) × (r ≤ 65000) ⌝ }
 {
     let k = x.len();
     if k == 76 {
@@ -132,8 +152,8 @@ pub fn row_sum(row: &[u8], x: &[u8]) -> u32
 // x times H transposed.
 pub fn syndrome(k: usize, vs: &[u8], x: &[u8], out: &mut [u8])
     requires { ⌜ (length (now x) ≡ k + length (now out)) × (length (now vs) ≡ k * length (now out))
-        × (length (now x) ≤ 4096) × T (allBelow 127 (now vs)) × T (allBelow 127 (now x)) ⌝ }
-    ensures { λ r. ⌜ now (out .exit) ≡ syndromeOf k (now (vs .entry)) (now (x .entry)) ⌝ }
+        × (length (now x) ≤ 256) × T (allBelow 127 (now vs)) × T (allBelow 127 (now x)) ⌝ }
+    ensures { λ r. ⌜ LooseOf (syndromeOf k (now (vs .entry)) (now (x .entry))) (now (out .exit)) ⌝ }
 {
     let covered = &x[..k];
     let mut i = 0;
@@ -141,8 +161,20 @@ pub fn syndrome(k: usize, vs: &[u8], x: &[u8], out: &mut [u8])
     while i < out.len() {
         let end = at + k;
         let sum = row_sum(&vs[at..end], covered);
-        out[i] = field::reduce(sum + x[k + i] as u32).0;
+        out[i] = field::reduce(sum + x[k + i] as u16).0;
         at = end;
+        i += 1;
+    }
+}
+
+// The step ahead of everything that is hashed, compared or written: each place that reads 127 becomes 0.
+pub fn normalize(xs: &mut [u8])
+    requires { ⌜ T (allBelow 128 (now xs)) ⌝ }
+    ensures { λ r. ⌜ now (xs .exit) ≡ residues (now (xs .entry)) ⌝ }
+{
+    let mut i = 0;
+    while i < xs.len() {
+        xs[i] = field::normalize(Loose(xs[i])).0;
         i += 1;
     }
 }

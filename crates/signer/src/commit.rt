@@ -68,6 +68,7 @@ fn commit_syndrome(
     linear::transform(key, es, &mut sigma[..n]);
     linear::scale(&sigma[..n], us, &mut x[..n]);
     linear::syndrome(k, vs, &x[..n], &mut s[..rows]);
+    linear::normalize(&mut s[..rows]);
     commit(
         p.rate,
         tag::COMMITMENT_0,

@@ -27,6 +27,7 @@ pub fn pack_response(p: Params, beta: Value, state: &[u8], out: &mut [u8])
     let both = n + n;
     let mut y = [0u8; PLACES];
     linear::respond(beta, &state[..n], &state[n..both], &mut y[..n]);
+    linear::normalize(&mut y[..n]);
     expand::pack_values(&y[..n], out);
 }
 

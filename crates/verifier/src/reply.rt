@@ -77,6 +77,7 @@ fn from_mask(p: Params, us: &[u8], es: &[u8], salt: &[u8], round: Round, out: &m
     let mut ys = [0u8; PLACES];
     let beta = round.beta;
     linear::respond(beta, us, es, &mut ys[..n]);
+    linear::normalize(&mut ys[..n]);
     commit_response(p, &ys[..n], &mut out[d..]);
 }
 
@@ -118,6 +119,7 @@ fn reply_syndrome(p: Params, vs: &[u8], s: &[u8], beta: Value, es: &[u8], ys: &[
     let mut product = [0u8; PLACES];
     linear::syndrome(k, vs, &scaled[..n], &mut product[..m]);
     linear::subtract(beta, &product[..m], s, out);
+    linear::normalize(out);
 }
 
 // c0(i): s̃, and σ as it came packed.

@@ -1,98 +1,146 @@
--- `row_sum_of`: the sum so far and the sum of what is left make the whole. Assumes nothing.
-use mathlib.Core.Path.{_≡_, ap}
-use Prim.Native.Nat.{ℕ, _≤_, _-_, _+_, _*_, _%_, _<_}
+-- `row_sum_of`: two halves, and the last product where the length is odd. Assumes nothing.
+use mathlib.Core.Path.{_≡_, refl, _∙_, ap, sym}
+use Prim.Native.Nat.{ℕ, _+_, _-_, _*_, _/_, _%_, _≤_}
 use native.Mathlib.Omega.{arith}
-use mathlib.Core.List.{List}
-use lib.Dec.{T}
-use Rattle.packing.specs.Packing.{allBelow}
-use lib.ListN.{length, drop, getD}
-use Rattle.outcome.proofs.Numbers.{product-le}
-use Rattle.packing.proofs.Below.{below, below-at}
+use borrow.Author.Needs.{needs}
+use lib.ListN.{drop, getD}
+use lib.Seq.{length-take-le}
+use Rattle.packing.proofs.Below.{below, below-take, below-drop}
+use Rattle.field.proofs.Congruence.{plus-congruent}
 use Rattle.linear.specs.Linear.{dot}
-use Rattle.linear.proofs.Rows.{dot-more, dot-end}
+use Rattle.linear.proofs.Kept.{kept-below}
+use Rattle.linear.proofs.Rows.{dot-halves, dot-more, dot-end, half-long, product-of}
 use Rattle.linear.proofs.row_sum_of.Statement.{statement}
 use Rattle.linear.proofs.row_sum_of.Tie as tie
 
--- a product of two values
-product-of : (row x : List ℕ) (i : ℕ) → length row ≡ length x → i < length x → T (allBelow 127 row) → T (allBelow 127 x)
-    → getD row i 0 * getD x i 0 ≤ 126 * 126
-product-of row x i e h tr tx =
-    let a = below-at (below 127 row tr) i (omega arith) in
-    let b = below-at (below 127 x tx) i h in
-    product-le _ _ 126 126 (omega arith) (omega arith)
+add-even : tie.Need-add-even
+add-even c = search needs
 
-abbrev Inv-loop : tie.InvT-loop
-Inv-loop row x k sum₀ i₀ sum i =
-    (i ≤ k) × (sum ≤ i * 15876) × (sum + dot (drop i row) (drop i x) ≡ dot row x)
+slice-aggregate-pair-sum : tie.Need-slice-aggregate-pair-sum
+slice-aggregate-pair-sum c = sym (length-take-le _ _ (omega arith))
 
-abbrev μ-loop : tie.MeasureT-loop
-μ-loop row x k sum₀ i₀ sum i = k - i
+slice-aggregate-pair-sum-2 : tie.Need-slice-aggregate-pair-sum-2
+slice-aggregate-pair-sum-2 c = sym (length-take-le _ _ (omega arith))
 
-loop-holds : tie.Need-loop-holds Inv-loop μ-loop
-loop-holds c = omega arith
+sub-pair-sum : tie.Need-sub-pair-sum
+sub-pair-sum c = search needs
 
-shared-slice-read-sum : tie.Need-shared-slice-read-sum Inv-loop μ-loop
-shared-slice-read-sum c = omega arith
+part-pair-sum-start : tie.Need-part-pair-sum-start
+part-pair-sum-start c = search needs
 
-cast-sum : tie.Need-cast-sum Inv-loop μ-loop
-cast-sum c = omega (arith, c .shared-slice-known .given (c .before .before .loop .i))
+part-pair-sum-end : tie.Need-part-pair-sum-end
+part-pair-sum-end c = search needs
 
-shared-slice-read-sum-2 : tie.Need-shared-slice-read-sum-2 Inv-loop μ-loop
-shared-slice-read-sum-2 c = omega arith
+sub-pair-sum-2 : tie.Need-sub-pair-sum-2
+sub-pair-sum-2 c = search needs
 
-cast-sum-2 : tie.Need-cast-sum-2 Inv-loop μ-loop
-cast-sum-2 c = omega (arith, c .shared-slice-known2 .given (c .before .before .before .loop .i))
+part-pair-sum-start-2 : tie.Need-part-pair-sum-start-2
+part-pair-sum-start-2 c = search needs
 
-mul-sum : tie.Need-mul-sum Inv-loop μ-loop
-mul-sum c =
-    let start = c .before .before .before .before in
-    let i = c .before .before .before .loop .i in
-    let product = product-of _ (start .args .x .now) i (omega arith) (omega arith) (start .pre .3) (start .pre .4) in
-    omega arith
+part-pair-sum-end-2 : tie.Need-part-pair-sum-end-2
+part-pair-sum-end-2 c = search needs
 
-add-sum : tie.Need-add-sum Inv-loop μ-loop
-add-sum c =
-    let start = c .before .before .before .before in
-    let i = c .before .before .before .loop .i in
-    let product = product-of _ (start .args .x .now) i (omega arith) (omega arith) (start .pre .3) (start .pre .4) in
-    omega arith
+pair-sum-requires : tie.Need-pair-sum-requires
+pair-sum-requires c κs =
+    let start = c .before .before .before .before .before .before in
+    let row = start .args .row .now in
+    let x = start .args .x .now in
+    let h = start .args .k / 2 in
+    let rows = below 127 row (start .pre .3) in
+    let xs = below 127 x (start .pre .4) in (
+      (
+        length-take-le h row (omega arith),
+        length-take-le h x (omega arith),
+        half-long row h (omega arith),
+        half-long x h (omega arith),
+        omega arith,
+      ),
+      (
+        kept-below 127 _ (below-take h rows),
+        kept-below 127 _ (below-take h xs),
+        kept-below 127 _ (below-take (h + h - h) (below-drop h rows)),
+        kept-below 127 _ (below-take (h + h - h) (below-drop h xs)),
+      ),
+    )
 
-add-i : tie.Need-add-i Inv-loop μ-loop
-add-i c = omega arith
+shared-slice-read-result : tie.Need-shared-slice-read-result
+shared-slice-read-result c = search needs
 
-loop-less : tie.Need-loop-less Inv-loop μ-loop
-loop-less c = omega arith
+cast-result : tie.Need-cast-result
+cast-result c =
+    let start = c .before .before .before .before .before .before .before .before .before in
+    omega (arith, c .shared-slice-known3 .given (start .args .k / 2 + start .args .k / 2))
 
-loop-again : tie.Need-loop-again Inv-loop μ-loop
-loop-again c =
-    let start = c .before .before .before .before in
-    let i = c .before .before .before .loop .i in
-    let product = product-of _ (start .args .x .now) i (omega arith) (omega arith) (start .pre .3) (start .pre .4) in
-    let rest = dot-more (start .args .row .now) (start .args .x .now) i (omega arith) (omega arith) in
-    omega arith
+shared-slice-read-result-2 : tie.Need-shared-slice-read-result-2
+shared-slice-read-result-2 c = search needs
 
-returns : tie.Need-returns Inv-loop μ-loop
+cast-result-2 : tie.Need-cast-result-2
+cast-result-2 c =
+    let start = c .before .before .before .before .before .before .before .before .before .before in
+    omega (arith, c .shared-slice-known4 .given (start .args .k / 2 + start .args .k / 2))
+
+-- the last product of an odd length
+last : (c : tie.After-shared-slice-known4) →
+    let start = c .before .before .before .before .before .before .before .before .before .before in
+    let even = start .args .k / 2 + start .args .k / 2 in
+    getD (start .args .row .now) even 0 * getD (start .args .x .now) even 0 ≤ 15876
+last c =
+    let start = c .before .before .before .before .before .before .before .before .before .before in
+    let even = start .args .k / 2 + start .args .k / 2 in
+    product-of (start .args .row .now) (start .args .x .now) even (omega arith) (omega arith) (start .pre .3) (start .pre .4)
+
+mul-result : tie.Need-mul-result
+mul-result c = omega (arith, last c)
+
+add-result : tie.Need-add-result
+add-result c = omega (arith, last c, c .before .before .before .pair-sum .ensures .1)
+
+returns : tie.Need-returns
 returns c =
-    let start = c .before .before in
-    let i = c .before .loop .i in
-    let rest = dot-end (start .args .row .now) (start .args .x .now) i (omega arith) in
-    let whole : c .before .loop .sum ≡ dot (start .args .row .now) (start .args .x .now) = omega arith in
-    (ap (λ (n : ℕ). n % 127) whole, omega arith)
+    let start = c .before .before .before .before .before .before .before .before .before .before in
+    let pairs = c .before .before .before .pair-sum in
+    let row = start .args .row .now in
+    let x = start .args .x .now in
+    let h = start .args .k / 2 in
+    let one = dot-more row x (h + h) (omega arith) (omega arith) in
+    let done = dot-end row x (h + h + 1) (omega arith) in
+    let product : dot (drop (h + h) row) (drop (h + h) x) ≡ getD row (h + h) 0 * getD x (h + h) 0 = omega arith in (
+      plus-congruent (pairs .result) _ _ _ (pairs .ensures .0) refl
+          ∙ ap (λ (n : ℕ). n % 127) (sym (dot-halves row x h ∙ rw product)),
+      omega (arith, last c, pairs .ensures .1),
+    )
+
+returns-2 : tie.Need-returns-2
+returns-2 c =
+    let start = c .before .before .before .before .before .before .before .before in
+    let pairs = c .before .pair-sum in
+    let row = start .args .row .now in
+    let x = start .args .x .now in
+    let h = start .args .k / 2 in
+    let none = dot-end row x (h + h) (omega arith) in (
+      pairs .ensures .0 ∙ ap (λ (n : ℕ). n % 127) (sym (dot-halves row x h ∙ omega arith)),
+      omega (arith, pairs .ensures .1),
+    )
 
 pub row-sum-of-spec : {M : Type 1} → statement M
 row-sum-of-spec =
     tie.close
     (tie.spec
-    Inv-loop
-    μ-loop
-    loop-holds
-    shared-slice-read-sum
-    cast-sum
-    shared-slice-read-sum-2
-    cast-sum-2
-    mul-sum
-    add-sum
-    add-i
-    loop-less
-    loop-again
-    returns)
+    add-even
+    slice-aggregate-pair-sum
+    slice-aggregate-pair-sum-2
+    sub-pair-sum
+    part-pair-sum-start
+    part-pair-sum-end
+    sub-pair-sum-2
+    part-pair-sum-start-2
+    part-pair-sum-end-2
+    pair-sum-requires
+    shared-slice-read-result
+    cast-result
+    shared-slice-read-result-2
+    cast-result-2
+    mul-result
+    add-result
+    returns
+    returns-2)

@@ -9,13 +9,15 @@ use native.Mathlib.Numerals.{add-one}
 use Rattle.packing.proofs.Below.{below, below-take, below-drop}
 use Rattle.linear.proofs.Kept.{kept-below}
 use Rattle.linear.specs.Linear.{syndrome}
-use Rattle.linear.proofs.Rows.{rows, rows-none, rows-store, rows-end, row-within, row-part}
+use Rattle.linear.proofs.Sizes.{length-syndrome}
+use Rattle.linear.proofs.Rows.{row-within, row-part}
+use Rattle.linear.proofs.Spelled.{Spelled, spelled-none, spelled-store, spelled-end, syndrome-place}
 use Rattle.linear.proofs.syndrome.Statement.{statement}
 use Rattle.linear.proofs.syndrome.Tie as tie
 
 abbrev Inv-loop : tie.InvT-loop
 Inv-loop k vs x out₀ covered i₀ at₀ out i at =
-    (i ≤ length out₀) × (at ≡ k * i) × (length out ≡ length out₀) × (out ≡ rows k vs x out₀ i)
+    (i ≤ length out₀) × (at ≡ k * i) × Spelled (syndrome k vs x) out₀ out i
 
 abbrev μ-loop : tie.MeasureT-loop
 μ-loop k vs x out₀ covered i₀ at₀ out i at = length out₀ - i
@@ -24,7 +26,7 @@ slice-aggregate-covered : tie.Need-slice-aggregate-covered Inv-loop μ-loop
 slice-aggregate-covered c = sym (length-take-le _ _ (omega arith))
 
 loop-holds : tie.Need-loop-holds Inv-loop μ-loop
-loop-holds c = (omega arith, omega arith, refl, rows-none _ _ _ _ (c .before .before .before .before .pre .0))
+loop-holds c = (omega arith, omega arith, spelled-none _ _)
 
 add-end : tie.Need-add-end Inv-loop μ-loop
 add-end c =
@@ -83,7 +85,9 @@ reduce-requires : tie.Need-reduce-requires Inv-loop μ-loop
 reduce-requires c κs = tt
 
 slice-write-out : tie.Need-slice-write-out Inv-loop μ-loop
-slice-write-out c = omega arith
+slice-write-out c =
+    let now = c .before .before .before .before .before .loop in
+    omega (arith, now .inv .2 .long)
 
 add-i : tie.Need-add-i Inv-loop μ-loop
 add-i c = omega arith
@@ -99,22 +103,25 @@ loop-again c =
     let a = start .args in
     let summed = c .before .before .row-sum in
     let rows = length (a .out .now) in
-    let part = row-part (a .k) (a .vs .now) rows (now .i) (now .at) (start .pre .1) (omega arith) (now .inv .1) in (
+    let part = row-part (a .k) (a .vs .now) rows (now .i) (now .at) (start .pre .1) (omega arith) (now .inv .1) in
+    let value = c .reduce .ensures .0
+    ∙ syndrome-place (a .k) (a .vs .now) (a .x .now) (now .i) (summed .result) (omega arith)
+    (summed .ensures .0 ∙ rw (part .0)) in (
       omega arith,
       rw (add-one, mul-suc, now .inv .1),
-      length-set (now .out) (now .i) (c .reduce .result .0) ∙ now .inv .2,
-      rows-store _ _ _ _ (start .pre .0) (now .out) (now .i) _ (summed .result) (now .inv .3) (omega arith)
-          (summed .ensures .0 ∙ rw (part .0)) (c .reduce .ensures),
+      spelled-store (c .reduce .result .0) (now .inv .2) (omega arith) value (c .reduce .ensures .1),
     )
 
 same-length : tie.Need-same-length Inv-loop μ-loop
-same-length c = c .before .loop .inv .2
+same-length c = c .before .loop .inv .2 .long
 
 returns : tie.Need-returns Inv-loop μ-loop
 returns c =
     let now = c .before .loop in
     let start = c .before .before .before .before .before .before in
-    now .inv .3 ∙ rows-end _ _ _ _ (start .pre .0) (now .i) (omega arith)
+    let a = start .args in
+    let size = length-syndrome (a .k) (a .vs .now) (a .x .now) in
+    spelled-end (now .inv .2) (omega arith) (omega arith)
 
 pub syndrome-spec : {M : Type 1} → statement M
 syndrome-spec =

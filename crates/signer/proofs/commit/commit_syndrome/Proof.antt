@@ -12,6 +12,7 @@ use Rattle.packing.specs.Packing.{pack, digits}
 use Rattle.linear.specs.Linear.{transformation, scaled, syndrome}
 use Rattle.linear.proofs.Kept.{kept-below}
 use Rattle.linear.proofs.Ranges.{below-transformation, below-scaled, below-syndrome}
+use Rattle.linear.proofs.Spelled.{loose-part, normal-part}
 use Rattle.scheme.specs.Strings.{bytesFrom, digest, commitment0String}
 use Rattle.expand.proofs.Lent.{Lent, lent-within, lent-length, lent-part}
 use Rattle.signer.proofs.Sponge.{rate-of}
@@ -67,19 +68,33 @@ s-lent c =
     let start = after-transform .before .before .before .before .before .before .before .before in
     record { fits = rows-fit start; kept = c .syndrome .kept .1 .1 .1 .0 }
 
-s-held : (c : tie.After-syndrome) →
-    let after-transform = c .before .before .before .before .before .before .before .before in
+-- the syndrome with its one spelling of zero
+normal-lent : (c : tie.After-normalize) →
+    let after-syndrome = c .before .before .before in
+    let after-transform = after-syndrome .before .before .before .before .before .before .before .before in
     let start = after-transform .before .before .before .before .before .before .before .before in
-    take (start .args .p .n - start .args .p .k) (c .syndrome .last .1 .1 .1 .0
-    ++ drop (start .args .p .n - start .args .p .k) (replicate 256 0))
+    let rows = start .args .p .n - start .args .p .k in
+    Lent rows (after-syndrome .syndrome .last .1 .1 .1 .0 ++ drop rows (replicate 256 0)) (c .normalize .last .0)
+normal-lent c =
+    let after-syndrome = c .before .before .before in
+    record { fits = lent-within (s-lent after-syndrome); kept = c .normalize .kept .0 }
+
+s-held : (c : tie.After-normalize) →
+    let after-syndrome = c .before .before .before in
+    let after-transform = after-syndrome .before .before .before .before .before .before .before .before in
+    let start = after-transform .before .before .before .before .before .before .before .before in
+    let rows = start .args .p .n - start .args .p .k in
+    take rows (c .normalize .last .0
+    ++ drop rows (after-syndrome .syndrome .last .1 .1 .1 .0 ++ drop rows (replicate 256 0)))
     ≡ syndrome (start .args .p .k) (start .args .vs .now)
     (scaled (transformation (start .args .key .now) (start .args .es .now)) (start .args .us .now))
 s-held c =
-    let after-scale = c .before .before .before .before in
+    let after-syndrome = c .before .before .before in
+    let after-scale = after-syndrome .before .before .before .before in
     let after-transform = after-scale .before .before .before .before in
     let start = after-transform .before .before .before .before .before .before .before .before in
-    lent-part (s-lent c)
-    ∙ c .syndrome .ensures
+    lent-part (normal-lent c)
+    ∙ normal-part (lent-part (s-lent after-syndrome)) (after-syndrome .syndrome .ensures) (c .normalize .ensures)
     ∙ ap (λ (x : List ℕ). syndrome (start .args .p .k) (start .args .vs .now) x) (x-held after-scale)
 
 slice-aggregate-transform : tie.Need-slice-aggregate-transform
@@ -151,31 +166,43 @@ syndrome-requires c κs =
       rw (x-held after-scale) (kept-below 127 _ (below-scaled _ _)),
     )
 
+array-borrow-prefix-s-2 : tie.Need-array-borrow-prefix-s-2
+array-borrow-prefix-s-2 c = lent-within (s-lent (c .before))
+
+slice-aggregate-normalize : tie.Need-slice-aggregate-normalize
+slice-aggregate-normalize c = lent-length (s-lent (c .before .before))
+
+normalize-requires : tie.Need-normalize-requires
+normalize-requires c κs =
+    let after-syndrome = c .before .before in
+    loose-part (lent-part (s-lent after-syndrome)) (after-syndrome .syndrome .ensures)
+
 array-share-prefix-s : tie.Need-array-share-prefix-s
-array-share-prefix-s c = lent-within (s-lent (c .before))
+array-share-prefix-s c = lent-within (normal-lent (c .before))
 
 slice-aggregate-commit : tie.Need-slice-aggregate-commit
-slice-aggregate-commit c = lent-length (s-lent (c .before .before))
+slice-aggregate-commit c = lent-length (normal-lent (c .before .before))
 
 array-share-prefix-sigma-2 : tie.Need-array-share-prefix-sigma-2
 array-share-prefix-sigma-2 c =
-    let after-transform = c .before .before .before .before .before .before .before .before .before .before in
-    lent-within (σ-lent after-transform)
+    let after-syndrome = c .before .before .before .before .before in
+    lent-within (σ-lent (after-syndrome .before .before .before .before .before .before .before .before))
 
 slice-aggregate-commit-2 : tie.Need-slice-aggregate-commit-2
 slice-aggregate-commit-2 c =
-    let after-transform = c .before .before .before .before .before .before .before .before .before .before .before in
-    lent-length (σ-lent after-transform)
+    let after-syndrome = c .before .before .before .before .before .before in
+    lent-length (σ-lent (after-syndrome .before .before .before .before .before .before .before .before))
 
 commit-requires : tie.Need-commit-requires
 commit-requires c κs =
-    let after-syndrome = c .before .before .before .before in
+    let after-normalize = c .before .before .before .before in
+    let after-syndrome = after-normalize .before .before .before in
     let after-transform = after-syndrome .before .before .before .before .before .before .before .before in
     let start = after-transform .before .before .before .before .before .before .before .before in
     let sound = start .pre .0 in (
       rate-of sound,
-      rw (s-held after-syndrome) (kept-below 127 _ (below-syndrome _ _ _)),
-      rw (sym (lent-length (s-lent after-syndrome))) (rows-fit start),
+      rw (s-held after-normalize) (kept-below 127 _ (below-syndrome _ _ _)),
+      rw (sym (lent-length (normal-lent after-normalize))) (rows-fit start),
       rw (σ-held after-transform) (kept-below 7 _ (below-transformation _ _)),
       rw (sym (lent-length (σ-lent after-transform))) (sound .n-fits),
     )
@@ -187,11 +214,12 @@ returns : tie.Need-returns
 unfolding digest bytesFrom commitment0String
 returns c =
     let after-commit = c .before .before in
-    let after-syndrome = after-commit .before .before .before .before .before in
+    let after-normalize = after-commit .before .before .before .before .before in
+    let after-syndrome = after-normalize .before .before .before in
     let after-transform = after-syndrome .before .before .before .before .before .before .before .before in
     let start = after-transform .before .before .before .before .before .before .before .before in
     let a = start .args in
-    let s = s-held after-syndrome in
+    let s = s-held after-normalize in
     let σ = σ-held after-transform in
     let sized = start .pre .5 in
     after-commit .commit .ensures ∙ (λ k. shake (a .p .rate)
@@ -215,6 +243,9 @@ commit-syndrome-spec =
     array-borrow-prefix-s
     slice-aggregate-syndrome-2
     syndrome-requires
+    array-borrow-prefix-s-2
+    slice-aggregate-normalize
+    normalize-requires
     array-share-prefix-s
     slice-aggregate-commit
     array-share-prefix-sigma-2

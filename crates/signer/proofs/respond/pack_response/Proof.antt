@@ -1,6 +1,6 @@
 -- `pack_response`: both masks are parts of the state. Assumes nothing.
 use mathlib.Core.Path.{_≡_, refl, _∙_, ap, sym}
-use mathlib.Core.List.{List}
+use mathlib.Core.List.{List, _++_}
 use Prim.Native.Nat.{ℕ, _+_, _-_}
 use native.Mathlib.Omega.{arith}
 use borrow.Author.Needs.{needs}
@@ -10,6 +10,7 @@ use Rattle.packing.specs.Packing.{pack, size}
 use Rattle.linear.specs.Linear.{response}
 use Rattle.linear.proofs.Kept.{kept-below}
 use Rattle.linear.proofs.Ranges.{below-response}
+use Rattle.linear.proofs.Spelled.{loose-part, normal-part}
 use Rattle.expand.proofs.Lent.{Lent, lent-within, lent-length, lent-part}
 use Rattle.signer.specs.InnerState.{responseOf, valuesOf, exponentsOf}
 use Rattle.signer.proofs.Loops.{cut}
@@ -62,22 +63,40 @@ y-lent c =
     let start = c .before .before .before .before .before .before in
     record { fits = start .pre .0 .n-fits; kept = c .respond .kept .1 .1 .1 .0 }
 
+array-borrow-prefix-y-2 : tie.Need-array-borrow-prefix-y-2
+array-borrow-prefix-y-2 c = lent-within (y-lent (c .before))
+
+slice-aggregate-normalize : tie.Need-slice-aggregate-normalize
+slice-aggregate-normalize c = lent-length (y-lent (c .before .before))
+
+normalize-requires : tie.Need-normalize-requires
+normalize-requires c κs =
+    let after-respond = c .before .before in
+    loose-part (lent-part (y-lent after-respond)) (after-respond .respond .ensures)
+
+-- the response with its one spelling of zero
+normal-lent : (c : tie.After-normalize) →
+    let after-respond = c .before .before .before in
+    let n = after-respond .before .before .before .before .before .before .args .p .n in
+    Lent n (after-respond .respond .last .1 .1 .1 .0 ++ drop n (replicate 256 0)) (c .normalize .last .0)
+normal-lent c =
+    let after-respond = c .before .before .before in
+    record { fits = lent-within (y-lent after-respond); kept = c .normalize .kept .0 }
+
 array-share-prefix-y : tie.Need-array-share-prefix-y
-array-share-prefix-y c = lent-within (y-lent (c .before))
+array-share-prefix-y c = lent-within (normal-lent (c .before))
 
 slice-aggregate-pack-values : tie.Need-slice-aggregate-pack-values
-slice-aggregate-pack-values c = lent-length (y-lent (c .before .before))
+slice-aggregate-pack-values c = lent-length (normal-lent (c .before .before))
 
 pack-values-requires : tie.Need-pack-values-requires
 pack-values-requires c κs =
-    let after-respond = c .before .before .before in
+    let after-normalize = c .before .before .before in
+    let after-respond = after-normalize .before .before .before in
     let start = after-respond .before .before .before .before .before .before in
-    let held =
-    lent-part (y-lent after-respond) ∙ after-respond .respond .ensures
-    in
-    let long =
-    lent-length (y-lent after-respond)
-    in (
+    let held = lent-part (normal-lent after-normalize)
+    ∙ normal-part (lent-part (y-lent after-respond)) (after-respond .respond .ensures) (after-normalize .normalize .ensures) in
+    let long = lent-length (normal-lent after-normalize) in (
       rw held (kept-below 127 _ (below-response _ _ _)),
       start .pre .3 ∙ ap (λ (k : ℕ). size 7 k) long,
     )
@@ -89,10 +108,12 @@ returns : tie.Need-returns
 unfolding responseOf
 returns c =
     let after-pack-values = c .before .before in
-    let after-respond = after-pack-values .before .before .before .before in
+    let after-normalize = after-pack-values .before .before .before .before in
+    let after-respond = after-normalize .before .before .before in
     let start = after-respond .before .before .before .before .before .before in
     let a = start .args in
-    let held = lent-part (y-lent after-respond) ∙ after-respond .respond .ensures
+    let held = lent-part (normal-lent after-normalize)
+    ∙ normal-part (lent-part (y-lent after-respond)) (after-respond .respond .ensures) (after-normalize .normalize .ensures)
     ∙ ap (λ (es : List ℕ). response (a .beta .0) (valuesOf (a .p) (a .state .now)) es) (exponents-are start) in
     after-pack-values .pack-values .ensures ∙ ap (λ (y : List ℕ). pack 7 y) held
 
@@ -108,6 +129,9 @@ pack-response-spec =
     array-borrow-prefix-y
     slice-aggregate-respond-2
     respond-requires
+    array-borrow-prefix-y-2
+    slice-aggregate-normalize
+    normalize-requires
     array-share-prefix-y
     slice-aggregate-pack-values
     pack-values-requires

@@ -9,8 +9,10 @@ use lib.Dec.{T}
 use lib.ListN.{length, replicate}
 use Rattle.packing.specs.Packing.{allBelow}
 use Rattle.linear.specs.Linear.{syndrome, lessTimes}
-use Rattle.linear.proofs.Sizes.{length-scaled, length-syndrome}
-use Rattle.linear.proofs.Ranges.{below-scaled, below-syndrome}
+use Rattle.linear.specs.InnerLoose.{residues}
+use Rattle.linear.proofs.Sizes.{length-scaled}
+use Rattle.linear.proofs.Ranges.{below-scaled}
+use Rattle.linear.proofs.Spelled.{loose-part, less-residues}
 use Rattle.expand.proofs.Lent.{Lent, part-length, lent-within, lent-length, lent-part}
 use Rattle.packing.specs.InnerVector.{Vector}
 use Rattle.verifier.proofs.Vectors.{made}
@@ -106,39 +108,41 @@ subtract-requires c κs =
     let at-syndrome = c .before .before .before in
     let at-scale = at-syndrome .before .before .before .before in
     let start = entry-scale at-scale in
-    let p = start .args .p in
-    let m = lent-length (product-lent at-syndrome) in
-    let product = made 127 (p .n - p .k) (lent-part (product-lent at-syndrome) ∙ at-syndrome .syndrome .ensures)
-    (length-syndrome (p .k) (start .args .vs .now) _
-    ∙ ap (λ (x : ℕ). x - p .k) (ap length (lent-part (scaled-lent at-scale)) ∙ scaled-vector at-scale .long))
-    (below-syndrome (p .k) (start .args .vs .now) _) in (
+    let m = lent-length (product-lent at-syndrome) in (
       start .pre .0 .3,
       start .pre .1 .2 ∙ m,
       start .pre .0 .2 .long ∙ m,
-      product .ranged,
+      loose-part (lent-part (product-lent at-syndrome)) (at-syndrome .syndrome .ensures),
       start .pre .0 .2 .ranged,
     )
+
+normalize-requires : tie.Need-normalize-requires
+normalize-requires c κs = c .before .before .before .subtract .ensures .ranged
 
 same-length : tie.Need-same-length
 same-length c = search needs
 
 returns : tie.Need-returns
 returns c =
-    let at-subtract = c .before .before in
+    let at-normalize = c .before .before in
+    let at-subtract = at-normalize .before .before .before .before in
     let at-syndrome = at-subtract .before .before .before .before in
     let at-scale = at-syndrome .before .before .before .before in
     let start = entry-scale at-scale in
     let a = start .args in
     let scaling = lent-part (scaled-lent at-scale) ∙ at-scale .scale .ensures in
     let product =
-    lent-part (product-lent at-syndrome) ∙ at-syndrome .syndrome .ensures
+    ap residues (lent-part (product-lent at-syndrome)) ∙ at-syndrome .syndrome .ensures .congruent
     ∙ ap (λ (x : List ℕ). syndrome (a .p .k) (a .vs .now) x) scaling
     in
-    at-subtract .subtract .ensures ∙ ap (λ (x : List ℕ). lessTimes (a .beta .0) x (a .s .now)) product
+    at-normalize .normalize .ensures
+    ∙ at-subtract .subtract .ensures .congruent
+    ∙ sym (less-residues (a .beta .0) _ (a .s .now))
+    ∙ ap (λ (x : List ℕ). lessTimes (a .beta .0) x (a .s .now)) product
 
 pub reply-syndrome-spec : {M : Type 1} → statement M
 reply-syndrome-spec =
     tie.close
     (tie.spec sub-m array-borrow-prefix-scaled slice-aggregate-scale scale-requires array-share-prefix-scaled
     slice-aggregate-syndrome array-borrow-prefix-product slice-aggregate-syndrome-2 syndrome-requires
-    array-share-prefix-product slice-aggregate-subtract subtract-requires same-length returns)
+    array-share-prefix-product slice-aggregate-subtract subtract-requires normalize-requires same-length returns)
