@@ -188,7 +188,7 @@ uint8_t gridprofile_sample_second_challenge(const uint8_t *block, size_t block_l
 /* Makes the public key of a private seed of GRIDPROFILE_PRIVATE_SEED_BYTES into
  * GRIDPROFILE_KEY_BYTES: the public seed, then the packed syndrome. Refuses with 1 where either
  * length is another, then with 2 where one of the key's draws is short.
- * Stack: 10624 bytes. */
+ * Stack: 10048 bytes. */
 uint8_t gridprofile_make_key(const uint8_t *private_seed, size_t private_seed_len, uint8_t *key,
                              size_t key_len);
 
@@ -197,7 +197,7 @@ uint8_t gridprofile_make_key(const uint8_t *private_seed, size_t private_seed_le
  * (GRIDPROFILE_SALT_BYTES) must be drawn afresh for each signature, and the master seed kept
  * secret; the library draws neither. Refuses with 1 where a length is another, then with 2 where a
  * draw is short: of the key, of the rounds, of the first or of the second challenges.
- * Stack: 69696 bytes. */
+ * Stack: 69248 bytes. */
 uint8_t gridprofile_sign(const uint8_t *private_seed, size_t private_seed_len,
                          const uint8_t *master_seed, size_t master_seed_len, const uint8_t *salt,
                          size_t salt_len, const uint8_t *message, size_t message_len,
@@ -221,7 +221,7 @@ uint8_t gridprofile_verify(const uint8_t *key, size_t key_len, const uint8_t *me
  * GRIDPROFILE_ROUNDS, first_challenge not 1 to 126 or second_challenge not 0 or 1; with 2 where the
  * draw of the matrix is short; with 3 where the reply has a bad field or with 2 where a draw from
  * its seed is short; last with 4 where commitment or response differs.
- * Stack: 11968 bytes. */
+ * Stack: 11392 bytes. */
 uint8_t gridprofile_verify_round(const uint8_t *key, size_t key_len, const uint8_t *salt,
                                  size_t salt_len, uint32_t round, const uint8_t *commitment_0,
                                  size_t commitment_0_len, const uint8_t *commitment_1,
@@ -268,7 +268,7 @@ uint8_t gridprofile_preview(const uint8_t *input, size_t input_len, uint8_t *out
  * touched. Seeds and salt are as for gridprofile_sign. Refuses with 1 where one of them or the
  * buffer has another length or the line has no line's length; with 5 where the line breaks a rule;
  * with 2 where a draw is short. *length is then as it was.
- * Stack: 70272 bytes. */
+ * Stack: 69760 bytes. */
 uint8_t gridprofile_make_package(const uint8_t *private_seed, size_t private_seed_len,
                                  const uint8_t *master_seed, size_t master_seed_len,
                                  const uint8_t *salt, size_t salt_len, const uint8_t *line,

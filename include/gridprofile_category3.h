@@ -77,7 +77,7 @@ uint8_t gridprofile_category3_sample_second_challenge(const uint8_t *block, size
 
 /* Makes the public key of a private seed of GRIDPROFILE_CATEGORY3_PRIVATE_SEED_BYTES into
  * GRIDPROFILE_CATEGORY3_KEY_BYTES. Refuses with 1, then 2.
- * Stack: 19264 bytes. */
+ * Stack: 18752 bytes. */
 uint8_t gridprofile_category3_make_key(const uint8_t *private_seed, size_t private_seed_len,
                                        uint8_t *key, size_t key_len);
 
@@ -85,7 +85,7 @@ uint8_t gridprofile_category3_make_key(const uint8_t *private_seed, size_t priva
  * GRIDPROFILE_CATEGORY3_SIGNATURE_BYTES. The master seed (GRIDPROFILE_CATEGORY3_MASTER_SEED_BYTES)
  * and the salt (GRIDPROFILE_CATEGORY3_SALT_BYTES) must be drawn afresh for each signature, and the
  * master seed kept secret; the library draws neither. Refuses with 1, then 2.
- * Stack: 144960 bytes. */
+ * Stack: 144512 bytes. */
 uint8_t gridprofile_category3_sign(const uint8_t *private_seed, size_t private_seed_len,
                                    const uint8_t *master_seed, size_t master_seed_len,
                                    const uint8_t *salt, size_t salt_len, const uint8_t *message,
@@ -105,7 +105,7 @@ uint8_t gridprofile_category3_verify(const uint8_t *key, size_t key_len, const u
  * GRIDPROFILE_CATEGORY3_REPLY_0_BYTES under second challenge 0 and
  * GRIDPROFILE_CATEGORY3_REPLY_1_BYTES under 1, and round is 1 to GRIDPROFILE_CATEGORY3_ROUNDS.
  * Refuses with 1, 3, 2, the reply's 3 or 2, and 4.
- * Stack: 20608 bytes. */
+ * Stack: 20096 bytes. */
 uint8_t gridprofile_category3_verify_round(const uint8_t *key, size_t key_len, const uint8_t *salt,
                                            size_t salt_len, uint32_t round,
                                            const uint8_t *commitment_0, size_t commitment_0_len,
@@ -118,7 +118,7 @@ uint8_t gridprofile_category3_verify_round(const uint8_t *key, size_t key_len, c
  * GRIDPROFILE_CATEGORY3_PACKAGE_MAX_BYTES lent bytes, and its length to *length; bytes past it are
  * not touched. Seeds and salt are as for gridprofile_category3_sign. Refuses with 1, 5 and 2;
  * *length is then as it was.
- * Stack: 145536 bytes. */
+ * Stack: 145024 bytes. */
 uint8_t gridprofile_category3_make_package(const uint8_t *private_seed, size_t private_seed_len,
                                            const uint8_t *master_seed, size_t master_seed_len,
                                            const uint8_t *salt, size_t salt_len,

@@ -77,7 +77,7 @@ uint8_t gridprofile_category5_sample_second_challenge(const uint8_t *block, size
 
 /* Makes the public key of a private seed of GRIDPROFILE_CATEGORY5_PRIVATE_SEED_BYTES into
  * GRIDPROFILE_CATEGORY5_KEY_BYTES. Refuses with 1, then 2.
- * Stack: 32064 bytes. */
+ * Stack: 31488 bytes. */
 uint8_t gridprofile_category5_make_key(const uint8_t *private_seed, size_t private_seed_len,
                                        uint8_t *key, size_t key_len);
 
@@ -85,7 +85,7 @@ uint8_t gridprofile_category5_make_key(const uint8_t *private_seed, size_t priva
  * GRIDPROFILE_CATEGORY5_SIGNATURE_BYTES. The master seed (GRIDPROFILE_CATEGORY5_MASTER_SEED_BYTES)
  * and the salt (GRIDPROFILE_CATEGORY5_SALT_BYTES) must be drawn afresh for each signature, and the
  * master seed kept secret; the library draws neither. Refuses with 1, then 2.
- * Stack: 253184 bytes. */
+ * Stack: 252736 bytes. */
 uint8_t gridprofile_category5_sign(const uint8_t *private_seed, size_t private_seed_len,
                                    const uint8_t *master_seed, size_t master_seed_len,
                                    const uint8_t *salt, size_t salt_len, const uint8_t *message,
@@ -105,7 +105,7 @@ uint8_t gridprofile_category5_verify(const uint8_t *key, size_t key_len, const u
  * GRIDPROFILE_CATEGORY5_REPLY_0_BYTES under second challenge 0 and
  * GRIDPROFILE_CATEGORY5_REPLY_1_BYTES under 1, and round is 1 to GRIDPROFILE_CATEGORY5_ROUNDS.
  * Refuses with 1, 3, 2, the reply's 3 or 2, and 4.
- * Stack: 33408 bytes. */
+ * Stack: 32832 bytes. */
 uint8_t gridprofile_category5_verify_round(const uint8_t *key, size_t key_len, const uint8_t *salt,
                                            size_t salt_len, uint32_t round,
                                            const uint8_t *commitment_0, size_t commitment_0_len,
@@ -118,7 +118,7 @@ uint8_t gridprofile_category5_verify_round(const uint8_t *key, size_t key_len, c
  * GRIDPROFILE_CATEGORY5_PACKAGE_MAX_BYTES lent bytes, and its length to *length; bytes past it are
  * not touched. Seeds and salt are as for gridprofile_category5_sign. Refuses with 1, 5 and 2;
  * *length is then as it was.
- * Stack: 253696 bytes. */
+ * Stack: 253248 bytes. */
 uint8_t gridprofile_category5_make_package(const uint8_t *private_seed, size_t private_seed_len,
                                            const uint8_t *master_seed, size_t master_seed_len,
                                            const uint8_t *salt, size_t salt_len,

@@ -1,7 +1,8 @@
 //! The library's inner sums, where zero is 0 or 127, and a search for sums that come out as 127.
 //!
-//! Which of the two comes out is the library's choice and follows from how it folds: so these sums
-//! are folded as its code folds them. They are called loose; `vectors` has those with one zero.
+//! Which of the two comes out is the library's choice. It folds, and no fold makes a positive number
+//! 0: so it is 127 wherever some term of the sum is not 0, in whatever order the terms are folded.
+//! These sums are folded too. They are called loose; `vectors` has those with one zero.
 
 use crate::refusal::{demand, Refusal};
 use crate::scheme::{challenges, committed, secret_key, sign, Mask, Round, SecretKey};
@@ -26,7 +27,8 @@ fn product(a: u8, b: u8) -> u16 {
 }
 
 /// A row of V times the first places of a vector. The first half goes beside the second, and each
-/// two products are folded at once; a last one without a partner is added as it is.
+/// two products are folded at once, as they fit 16 bits; a last one without a partner is added as it
+/// is.
 fn row_sum(row: &[u8], head: &[u8]) -> u16 {
     let (half, at) = (row.len() / 2, |i: usize| product(row[i], head[i]));
     let pairs: u16 = (0..half).map(|i| fold(at(i) + at(half + i))).sum();

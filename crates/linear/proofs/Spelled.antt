@@ -7,13 +7,13 @@ use native.Mathlib.Nat.{le-of-suc-le-suc, zero-lt-suc, mul-suc, mul-zero, add-co
 use native.Mathlib.Omega.{arith}
 use native.Mathlib.Decide.{decLt}
 use lib.Dec.{T}
-use lib.ListN.{length, getD, set, take, drop, length-set, length-drop}
-use lib.Seq.{getD-set-same, getD-set-other, getD-drop, drop-drop}
+use lib.ListN.{length, getD, set, take, drop, length-set}
+use lib.Seq.{getD-set-same, getD-set-other, drop-drop}
 use Rattle.packing.specs.Packing.{allBelow}
 use Rattle.packing.proofs.Below.{below-index}
 use Rattle.field.proofs.Congruence.{plus-congruent}
 use Rattle.field.specs.Field.{less}
-use Rattle.linear.specs.Linear.{lessTimes, dot, rowsTimes, syndrome}
+use Rattle.linear.specs.Linear.{lessTimes, dot, rowsTimes}
 use Rattle.linear.specs.InnerLoose.{Loose, residues}
 use Rattle.linear.proofs.Kept.{kept-below}
 
@@ -89,15 +89,13 @@ place-rows k vs a (y ∷ b) zero h = rw mul-zero
 place-rows k vs a (y ∷ b) (suc i) h =
     place-rows k (drop k vs) a b i (le-of-suc-le-suc h) ∙ rw (drop-drop, mul-suc, add-comm (k * i) k)
 
--- a row's sum up to multiples of 127, and the next place
-pub syndrome-place : (k : ℕ) (vs x : List ℕ) (i sum : ℕ) → k + i < length x
-    → sum % 127 ≡ dot (take k (drop (k * i) vs)) (take k x) % 127
-    → (sum + getD x (k + i) 0) % 127 ≡ getD (syndrome k vs x) i 0
-unfolding syndrome
-syndrome-place k vs x i sum h e =
-    rw (← getD-drop k x i 0)
-    (plus-congruent sum (dot (take k (drop (k * i) vs)) (take k x)) (getD (drop k x) i 0) (getD (drop k x) i 0) e refl
-    ∙ sym (place-rows k vs (take k x) (drop k x) i (rw length-drop (omega arith))))
+-- a row's sum up to multiples of 127, and the place that is added
+pub row-place : (k : ℕ) (vs a b : List ℕ) (i sum : ℕ) → i < length b
+    → sum % 127 ≡ dot (take k (drop (k * i) vs)) a % 127
+    → (sum + getD b i 0) % 127 ≡ getD (rowsTimes k vs a b) i 0
+row-place k vs a b i sum h e =
+    plus-congruent sum (dot (take k (drop (k * i) vs)) a) (getD b i 0) (getD b i 0) e refl
+    ∙ sym (place-rows k vs a b i h)
 
 -- − β s asks only for the residues
 pub less-residues : (β : ℕ) (xs s : List ℕ) → lessTimes β (residues xs) s ≡ lessTimes β xs s

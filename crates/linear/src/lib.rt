@@ -7,10 +7,10 @@ use field::Value;
 ghost use mathlib.Core.Path.{_≡_};
 ghost use Prim.Native.Nat.{_+_, _*_, _%_, _<_, _≤_};
 ghost use lib.Dec.{T};
-ghost use lib.ListN.{length};
+ghost use lib.ListN.{length, take, drop};
 ghost use Rattle.packing.specs.Packing.{allBelow};
 ghost use Rattle.linear.specs.Linear.{powers as powersOf, scaled, response, transformation, lessTimes};
-ghost use Rattle.linear.specs.Linear.{dot, syndrome as syndromeOf};
+ghost use Rattle.linear.specs.Linear.{dot, rowsTimes, syndrome as syndromeOf};
 ghost use Rattle.linear.specs.InnerSteps.{multiplied, added};
 ghost use Rattle.linear.specs.InnerLoose.{Loose as LooseOf, residues};
 
@@ -129,24 +129,58 @@ fn row_sum_of(row: &[u8], x: &[u8], k: usize) -> u16
     pairs
 }
 
-// The same for every length. Those in use, of categories 1, 3 and 5, are named, so that each has a loop with its
-// constant.
+// The same for every length. Those in use, of categories 1, 3 and 5 as row_width gives them, are named, so that each has a
+// loop with its constant.
 pub fn row_sum(row: &[u8], x: &[u8]) -> u16
     requires { ⌜ (length (now row) ≡ length (now x)) × (length (now x) ≤ 256) × T (allBelow 127 (now row))
         × T (allBelow 127 (now x)) ⌝ }
     ensures { λ r. ⌜ (r % 127 ≡ dot (now (row .entry)) (now (x .entry)) % 127) × (r ≤ 65000) ⌝ }
 {
     let k = x.len();
-    if k == 76 {
-        return row_sum_of(row, x, 76);
+    if k == 80 {
+        return row_sum_of(row, x, 80);
     }
-    if k == 111 {
-        return row_sum_of(row, x, 111);
+    if k == 112 {
+        return row_sum_of(row, x, 112);
     }
-    if k == 150 {
-        return row_sum_of(row, x, 150);
+    if k == 160 {
+        return row_sum_of(row, x, 160);
     }
     row_sum_of(row, x, k)
+}
+
+// How many places a row's sum takes, where so many of V are left: the row's own k, and on into the next row up to a
+// multiple of 16, so that whole groups of eight go at once in both halves.
+fn row_width(k: usize, left: usize) -> usize
+    requires { ⌜ (k ≤ 256) × (k ≤ left) ⌝ }
+    ensures { λ r. ⌜ (k ≤ r) × (r ≤ left) × (r ≤ 256) ⌝ }
+{
+    let wide = (k + 15) / 16 * 16;
+    if wide <= left {
+        return wide;
+    }
+    k
+}
+
+// Each row of V times the first k places of x, plus the place of b. After these k places x has zeros: what a sum takes of
+// the next row counts nothing.
+fn rows_times(k: usize, vs: &[u8], x: &[u8], b: &[u8], out: &mut [u8])
+    requires { ⌜ (length (now b) ≡ length (now out)) × (length (now vs) ≡ k * length (now out)) × (k ≤ 256)
+        × (length (now x) ≡ 256) ⌝ }
+    requires { ⌜ T (allBelow 127 (now vs)) × T (allBelow 127 (now x)) × T (allBelow 1 (drop k (now x))) ⌝ }
+    ensures { λ r. ⌜ LooseOf (rowsTimes k (now (vs .entry)) (take k (now (x .entry))) (now (b .entry)))
+        (now (out .exit)) ⌝ }
+{
+    let mut i = 0;
+    let mut at = 0;
+    while i < out.len() {
+        let width = row_width(k, vs.len() - at);
+        let end = at + width;
+        let sum = row_sum(&vs[at..end], &x[..width]);
+        out[i] = field::reduce(sum + b[i] as u16).0;
+        at += k;
+        i += 1;
+    }
 }
 
 // x times H transposed.
@@ -155,16 +189,9 @@ pub fn syndrome(k: usize, vs: &[u8], x: &[u8], out: &mut [u8])
         × (length (now x) ≤ 256) × T (allBelow 127 (now vs)) × T (allBelow 127 (now x)) ⌝ }
     ensures { λ r. ⌜ LooseOf (syndromeOf k (now (vs .entry)) (now (x .entry))) (now (out .exit)) ⌝ }
 {
-    let covered = &x[..k];
-    let mut i = 0;
-    let mut at = 0;
-    while i < out.len() {
-        let end = at + k;
-        let sum = row_sum(&vs[at..end], covered);
-        out[i] = field::reduce(sum + x[k + i] as u16).0;
-        at = end;
-        i += 1;
-    }
+    let mut covered = [0u8; 256];
+    buffers::copy(&mut covered[..k], &x[..k]);
+    rows_times(k, vs, &covered, &x[k..], out);
 }
 
 // The step ahead of everything that is hashed, compared or written: each place that reads 127 becomes 0.

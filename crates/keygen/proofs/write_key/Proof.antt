@@ -86,6 +86,15 @@ s-lent c =
     let start = c .before .before .before .before .before .before .before .before .before .before in
     record { fits = rows-fit start; kept = c .syndrome .kept .1 .1 .1 .0 }
 
+normal-lent : (c : tie.After-normalize) →
+    let after-syndrome = c .before .before .before in
+    let start = after-syndrome .before .before .before .before .before .before .before .before .before .before in
+    let rows = start .args .p .n - start .args .p .k in
+    Lent rows (after-syndrome .syndrome .last .1 .1 .1 .0 ++ drop rows (replicate 256 0)) (c .normalize .last .0)
+normal-lent c =
+    let after-syndrome = c .before .before .before in
+    record { fits = lent-within (s-lent after-syndrome); kept = c .normalize .kept .0 }
+
 array-borrow-prefix-s-2 : tie.Need-array-borrow-prefix-s-2
 array-borrow-prefix-s-2 c = lent-within (s-lent (c .before))
 
@@ -96,15 +105,6 @@ normalize-requires : tie.Need-normalize-requires
 normalize-requires c κs =
     let after-syndrome = c .before .before in
     loose-part (lent-part (s-lent after-syndrome)) (after-syndrome .syndrome .ensures)
-
-normal-lent : (c : tie.After-normalize) →
-    let after-syndrome = c .before .before .before in
-    let start = after-syndrome .before .before .before .before .before .before .before .before .before .before in
-    let rows = start .args .p .n - start .args .p .k in
-    Lent rows (after-syndrome .syndrome .last .1 .1 .1 .0 ++ drop rows (replicate 256 0)) (c .normalize .last .0)
-normal-lent c =
-    let after-syndrome = c .before .before .before in
-    record { fits = lent-within (s-lent after-syndrome); kept = c .normalize .kept .0 }
 
 -- what is packed
 s-held : (c : tie.After-normalize) →

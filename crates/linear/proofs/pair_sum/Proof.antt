@@ -1,12 +1,9 @@
 -- `pair_sum`: the sum so far and the sums of what is left make the whole, modulo 127. Assumes nothing.
 use mathlib.Core.Path.{_≡_, _∙_, ap, sym}
-use Prim.Native.Nat.{ℕ, _≤_, _-_, _+_, _*_, _%_, _<_}
+use Prim.Native.Nat.{ℕ, _≤_, _-_, _+_, _*_, _%_}
 use native.Mathlib.Omega.{arith}
 use mathlib.Core.List.{List}
-use lib.Dec.{T}
-use lib.ListN.{length, drop, getD}
-use Rattle.packing.specs.Packing.{allBelow}
-use Rattle.field.proofs.Folds.{folded}
+use lib.ListN.{drop, getD}
 use Rattle.linear.specs.Linear.{dot}
 use Rattle.linear.proofs.Rows.{dot-more, dot-end, product-of, pair-low, pair-bound, pair-step}
 use Rattle.linear.proofs.pair_sum.Statement.{statement}

@@ -63,6 +63,15 @@ y-lent c =
     let start = c .before .before .before .before .before .before in
     record { fits = start .pre .0 .n-fits; kept = c .respond .kept .1 .1 .1 .0 }
 
+-- the response with its one spelling of zero
+normal-lent : (c : tie.After-normalize) →
+    let after-respond = c .before .before .before in
+    let n = after-respond .before .before .before .before .before .before .args .p .n in
+    Lent n (after-respond .respond .last .1 .1 .1 .0 ++ drop n (replicate 256 0)) (c .normalize .last .0)
+normal-lent c =
+    let after-respond = c .before .before .before in
+    record { fits = lent-within (y-lent after-respond); kept = c .normalize .kept .0 }
+
 array-borrow-prefix-y-2 : tie.Need-array-borrow-prefix-y-2
 array-borrow-prefix-y-2 c = lent-within (y-lent (c .before))
 
@@ -73,15 +82,6 @@ normalize-requires : tie.Need-normalize-requires
 normalize-requires c κs =
     let after-respond = c .before .before in
     loose-part (lent-part (y-lent after-respond)) (after-respond .respond .ensures)
-
--- the response with its one spelling of zero
-normal-lent : (c : tie.After-normalize) →
-    let after-respond = c .before .before .before in
-    let n = after-respond .before .before .before .before .before .before .args .p .n in
-    Lent n (after-respond .respond .last .1 .1 .1 .0 ++ drop n (replicate 256 0)) (c .normalize .last .0)
-normal-lent c =
-    let after-respond = c .before .before .before in
-    record { fits = lent-within (y-lent after-respond); kept = c .normalize .kept .0 }
 
 array-share-prefix-y : tie.Need-array-share-prefix-y
 array-share-prefix-y c = lent-within (normal-lent (c .before))

@@ -61,6 +61,15 @@ respond-requires c κs =
 lent : (c : tie.After-respond) → Lent (entry-respond c .args .p .n) (replicate 256 0) (c .respond .last .1 .1 .1 .0)
 lent c = record { fits = entry-respond c .pre .0 .n-fits; kept = c .respond .kept .1 .1 .1 .0 }
 
+-- the response with its one spelling of zero
+normal-lent : (c : tie.After-normalize) →
+    let at-respond = c .before .before .before in
+    let n = entry-respond at-respond .args .p .n in
+    Lent n (at-respond .respond .last .1 .1 .1 .0 ++ drop n (replicate 256 0)) (c .normalize .last .0)
+normal-lent c =
+    let at-respond = c .before .before .before in
+    record { fits = lent-within (lent at-respond); kept = c .normalize .kept .0 }
+
 array-borrow-prefix-ys-2 : tie.Need-array-borrow-prefix-ys-2
 array-borrow-prefix-ys-2 c = lent-within (lent (c .before))
 
@@ -71,15 +80,6 @@ normalize-requires : tie.Need-normalize-requires
 normalize-requires c κs =
     let at-respond = c .before .before in
     loose-part (lent-part (lent at-respond)) (at-respond .respond .ensures)
-
--- the response with its one spelling of zero
-normal-lent : (c : tie.After-normalize) →
-    let at-respond = c .before .before .before in
-    let n = entry-respond at-respond .args .p .n in
-    Lent n (at-respond .respond .last .1 .1 .1 .0 ++ drop n (replicate 256 0)) (c .normalize .last .0)
-normal-lent c =
-    let at-respond = c .before .before .before in
-    record { fits = lent-within (lent at-respond); kept = c .normalize .kept .0 }
 
 ys-held : (c : tie.After-normalize) →
     let a = entry-respond (c .before .before .before) .args in
