@@ -1,4 +1,4 @@
--- A fold keeps the remainder by 127, and how far it brings a sum down. Assumes nothing.
+-- Folds keep the remainder by 127, and so does the step to the one spelling of zero. Assumes nothing.
 use mathlib.Core.Path.{_≡_, _∙_, sym}
 use Prim.Native.Nat.{ℕ, _+_, _/_, _%_, _<_, _≤_}
 use native.Mathlib.Omega.{arith}
@@ -9,22 +9,6 @@ folded x = x % 128 + x / 128
 
 pub fold-congruent : (x : ℕ) → folded x % 127 ≡ x % 127
 fold-congruent x = omega arith
-
--- a sum of 16 bits, what one fold leaves of it, and what two leave
-pub fold-once : (x : ℕ) → x < 65536 → folded x ≤ 638
-fold-once x h = omega arith
-
-pub fold-twice : (x : ℕ) → x ≤ 638 → folded x ≤ 131
-fold-twice x h = omega arith
-
--- at most 254 folds to at most 127: 255 would fold to 128
-pub fold-last : (x : ℕ) → x ≤ 254 → folded x ≤ 127
-fold-last x h = omega arith
-
-pub thrice : (x : ℕ) → x < 65536 → folded (folded (folded x)) ≤ 127
-thrice x h =
-    let second : folded (folded x) ≤ 131 = fold-twice (folded x) (fold-once x h) in
-    fold-last (folded (folded x)) (omega arith)
 
 pub thrice-congruent : (x : ℕ) → folded (folded (folded x)) % 127 ≡ x % 127
 thrice-congruent x = fold-congruent (folded (folded x)) ∙ fold-congruent (folded x) ∙ fold-congruent x
