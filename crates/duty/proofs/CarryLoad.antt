@@ -69,8 +69,8 @@ makes-and-loads {p} {table} sound {private} {master} {salt} {line} {country} {cl
           let of-line = line-loads table p sound private master salt line old out 0 size sealed in (
             of-line .0,
             of-line .1,
-            λ two same letter whole newer room.
-                let all = of-line .2 country class store (r .load) store′ two same letter whole newer room loads in
+            λ two own whole newer room.
+                let all = of-line .2 country class store (r .load) store′ two own whole newer room loads in
                 let room-for = length-replicate {A = ℕ} longest 0 in
                 let line-found = all .2 (replicate longest 0) 0 (r .lookup) found length-found room-for looked in
                 let written : take length-found found ≡ line =

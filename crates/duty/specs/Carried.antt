@@ -15,7 +15,7 @@ use Rattle.profile.specs.Line.{longest, readLine}
 use Rattle.scheme.specs.Key.{keySize}
 use Rattle.scheme.specs.Duty.{OpensKey, Excuses, committed, responded}
 use Rattle.scheme.specs.Entries.{MakesKey, Signs, Verifies, VerifiesRound}
-use Rattle.store.specs.Keys.{keyOf, deviceOf}
+use Rattle.store.specs.Keys.{keyOf, deviceOf, deviceKey}
 use Rattle.store.specs.Stored.{capacity, storeSize, stored, find, isStored}
 use Rattle.store.specs.Calls.{lookupIn, newer, LooksUp}
 use Rattle.package.specs.Entries.{MakesFromLine, Loads}
@@ -73,8 +73,7 @@ module _ (p : Params) where
     -- than the one stored, if any, and its pair is stored or there is room: the key was made, loading answers 0, the
     -- profile is found, and the lookup answers 0 and writes the line
     pub loads : r .make ≡ 0 → (profile : Profile) × (readLine table line ≡ done profile)
-        × (length country ≡ 2 → deviceOf country class .country ≡ profile .country
-        → class ≡ profile .class → length store ≡ storeSize
+        × (length country ≡ 2 → deviceKey (deviceOf country class) ≡ keyOf profile → length store ≡ storeSize
         → newer profile (find (keyOf profile) (stored store)) ≡ true
         → (isStored (keyOf profile) (stored store) || ltb (length (stored store)) capacity) ≡ true
         → (r .key ≡ 0) × (r .load ≡ 0) × (lookupIn table (deviceOf country class) (stored store′) ≡ done profile)

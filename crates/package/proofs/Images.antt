@@ -98,11 +98,11 @@ module _ (table : List Class) (p : Params) where
       let back = writes-read table line (m .profile) (m .read) in (
         m .profile,
         m .read,
-        λ country class old answer new two same letter whole newer room loads.
+        λ country class old answer new two own whole newer room loads.
             let both =
             made-loads p table sound private master salt (m .profile) lent sealed before size country class old answer
-            new (m .makes) two same letter whole newer room loads in
-            let fine = device-of-valid table (m .profile) (deviceOf country class) (back .1) same letter in
+            new (m .makes) two own whole newer room loads in
+            let fine = device-of-valid table (m .profile) (deviceOf country class) (back .1) own in
             let kept = taken-size whole (loads .taken (both .0) .2) in (
               both .0,
               both .1,

@@ -1,5 +1,5 @@
 -- The theorems of specs/Theorems.antt. Assumes nothing.
-use mathlib.Core.Path.{_≡_, _∙_, sym, ap, subst}
+use mathlib.Core.Path.{_≡_, _∙_, sym, subst}
 use mathlib.Core.Bool.{true}
 use mathlib.Core.List.{List, _++_}
 use Prim.Native.Nat.{ℕ}
@@ -18,7 +18,6 @@ use Rattle.image.proofs.Theorems.{valid-fits}
 use Rattle.scheme.specs.Key.{publicKey}
 use Rattle.scheme.specs.Sign.{signatureSize, signature}
 use Rattle.scheme.proofs.Accepted.{accepted as verifies, length-signature}
-use Rattle.store.specs.declared.Key.{Key}
 use Rattle.store.specs.declared.Device.{Device}
 use Rattle.store.specs.Keys.{keyOf, deviceOf, deviceKey, sameKey, deviceOk}
 use Rattle.store.specs.Stored.{storeSize, stored}
@@ -77,8 +76,7 @@ module _ (p : Params) (table : List Class) where
         t .profile,
         t .taken,
         written .1,
-        ap (λ (k : Key). k .country) same,
-        ap (λ (k : Key). k .class) same,
+        same,
         rw (written .0) (sym (take-append-drop (signatureSize p) sealed)),
         rw (written .0) (t .passes .verified),
       )
@@ -110,18 +108,16 @@ made-whole p table private master salt profile old sealed before size made =
 
 pub made-loads : (p : Params) (table : List Class) → Sound p → MadeLoads p table
 unfolding packageOf
-made-loads p table sound private master salt profile lent sealed before size country class old answer new made two
-    its-country its-class whole newer room loads =
+made-loads p table sound private master salt profile lent sealed before size country class old answer new made two own
+    whole newer room loads =
     let device : Device = deviceOf country class in
     let sig : List ℕ = signature p private master salt (lineOf profile) in
     let ok = made-passed p table private master salt profile (length lent) (sym (made .answers .answer)) in
     let sized = length-signature p sound private master salt (lineOf profile) (signatureSize p) (ok .1) in
     let written : take size sealed ≡ sig ++ lineOf profile =
     made-whole p table private master salt profile lent sealed before size made in
-    let same : keyOf profile ≡ deviceKey device =
-    λ i. record { country = sym its-country i; class = sym its-class i } in
-    let its : sameKey (keyOf profile) (deviceKey device) ≡ true = rw same (same-refl (deviceKey device)) in
-    let fine : deviceOk table device ≡ true = device-of-valid table profile device (ok .0) its-country its-class in
+    let its : sameKey (keyOf profile) (deviceKey device) ≡ true = rw (sym own) (same-refl (deviceKey device)) in
+    let fine : deviceOk table device ≡ true = device-of-valid table profile device (ok .0) own in
     let passes : firstRefusal (loadChecks p table (publicKey p private) (take size sealed) country class old) ≡ 0 =
     rw written
     (package-loads p table (publicKey p private) sig country class profile old (ok .0) sized

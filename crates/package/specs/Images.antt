@@ -156,8 +156,7 @@ module _ (table : List Class) where
         → MakesFromLine p table private master salt line lent before 0 sealed size
         → (profile : Profile) × (readLine table line ≡ done profile)
         × ((country : List ℕ) (class : ℕ) (old : List ℕ) (answer : ℕ) (new : List ℕ)
-        → length country ≡ 2 → deviceOf country class .country ≡ profile .country → class ≡ profile .class
-        → length old ≡ storeSize
+        → length country ≡ 2 → deviceKey (deviceOf country class) ≡ keyOf profile → length old ≡ storeSize
         → newer profile (find (keyOf profile) (stored old)) ≡ true
         → (isStored (keyOf profile) (stored old) || ltb (length (stored old)) capacity) ≡ true
         → Loads p table (publicKey p private) (take size sealed) country class old answer new

@@ -14,7 +14,7 @@ use Rattle.profile.specs.Rules.{Class, valid}
 use Rattle.profile.specs.Line.{lineOf, readLine}
 use Rattle.scheme.specs.Key.{publicKey}
 use Rattle.scheme.specs.Verify.{verify}
-use Rattle.store.specs.Keys.{keyOf, deviceOf}
+use Rattle.store.specs.Keys.{keyOf, deviceOf, deviceKey}
 use Rattle.store.specs.Stored.{capacity, storeSize, stored, find, isStored}
 use Rattle.store.specs.Calls.{lookupIn, newer, Taken}
 use Rattle.store.specs.Reached.{Call, Reached}
@@ -31,8 +31,7 @@ module _ (p : Params) (table : List Class) where
       (private master salt : List ℕ) (profile : Profile) (lent sealed : List ℕ) (before size : ℕ)
       (country : List ℕ) (class : ℕ) (old : List ℕ) (answer : ℕ) (new : List ℕ)
       → MakesPackage p table private master salt profile lent before 0 sealed size
-      → length country ≡ 2 → deviceOf country class .country ≡ profile .country → class ≡ profile .class
-      → length old ≡ storeSize
+      → length country ≡ 2 → deviceKey (deviceOf country class) ≡ keyOf profile → length old ≡ storeSize
       → newer profile (find (keyOf profile) (stored old)) ≡ true
       → (isStored (keyOf profile) (stored old) || ltb (length (stored old)) capacity) ≡ true
       → Loads p table (publicKey p private) (take size sealed) country class old answer new
@@ -45,7 +44,7 @@ module _ (p : Params) (table : List Class) where
       (key sealed country : List ℕ) (class : ℕ) (old : List ℕ) (answer : ℕ) (new : List ℕ)
       → Loads p table key sealed country class old answer new → answer ≡ 0
       → (profile : Profile) × Taken profile old new × T (valid table profile)
-      × (profile .country ≡ deviceOf country class .country) × (profile .class ≡ class)
+      × (keyOf profile ≡ deviceKey (deviceOf country class))
       × (sealed ≡ signatureIn p sealed ++ lineOf profile)
       × (verify p key (lineOf profile) (signatureIn p sealed) ≡ 0)
 

@@ -44,7 +44,7 @@ use Rattle.preview.specs.Preview.{
 -- a valid profile on a device of its own country and class is a valid call
 pub own-valid : (table : List Class) (p : Profile) → T (valid table p)
     → ValidCall table (record { device = ownDevice p; profile = p })
-own-valid table p ok = record { profile = ok; device = device-of-valid table p (ownDevice p) ok refl refl }
+own-valid table p ok = record { profile = ok; device = device-of-valid table p (ownDevice p) ok refl }
 
 -- and such are all calls of lines
 abbrev AllCalls : List Class → List Call → Type 0

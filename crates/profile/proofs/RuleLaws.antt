@@ -14,7 +14,7 @@ use Rattle.decimal.specs.Decimal.{decimal, largest}
 use Rattle.decimal.proofs.Decimal.{length-mono}
 use Rattle.profile.specs.declared.Profile.{Profile}
 use Rattle.outcome.specs.Result.{done, answer}
-use Rattle.profile.specs.Rules.{Range, _to_, contains, inOneOf, share, above, below, number, Field, tripFields, rateFields, fieldsOf, lineKind, tripRules, rateRules, Rule, rules, fits, obeys, Class, classIn, isClass, letters, valid}
+use Rattle.profile.specs.Rules.{Range, _to_, contains, inOneOf, share, above, below, plain, number, Field, tripFields, rateFields, fieldsOf, lineKind, one, nominalHertz, tripRules, rateRules, Rule, rules, fits, obeys, Class, classIn, isClass, letters, valid}
 
 abbrev pub lowest : Range → ℕ
 lowest (low to high) = low
@@ -174,6 +174,14 @@ parts table p t =
       fields = and-first (obeys (rules (lineKind p)) (fieldsOf p)) _ but-country;
       agrees = and-rest (obeys (rules (lineKind p)) (fieldsOf p)) _ but-country;
     }
+
+-- whose hertz are nominal ones
+pub valid-hertz : (table : List Class) (p : Profile) → T (valid table p) → inOneOf nominalHertz (p .hertz) ≡ true
+unfolding obeys fieldsOf
+valid-hertz table p ok =
+    let but-serial = and-rest (fits (one plain (1 to 4294967295)) (number (p .serial))) _ (parts table p ok .fields) in
+    let but-volts = and-rest (fits (one plain (100 to 1000)) (number (p .volts))) _ but-serial in
+    and-first (fits (record { kind = plain; ranges = nominalHertz }) (number (p .hertz))) _ but-volts
 
 -- ---- what a range says of the digits of its numbers
 

@@ -121,13 +121,17 @@ abbrev pub rateRules : LineKind → List Rule
 rateRules GP1 = []
 rateRules GP2 = tripRules rate (100 to 10000)
 
+-- nominal hertz
+abbrev pub nominalHertz : List Range
+nominalHertz = 50 to 50 ∷ 60 to 60 ∷ []
+
 -- serial, nominal volts, hertz; then over-voltage, under-voltage, over-frequency and under-frequency, each with its delay; and
 -- the rate of change of frequency with its delay, in the kind of line that has it
 abbrev pub rules : LineKind → List Rule
 rules kind =
     one plain (1 to 4294967295)
     ∷ one plain (100 to 1000)
-    ∷ record { kind = plain; ranges = 50 to 50 ∷ 60 to 60 ∷ [] }
+    ∷ record { kind = plain; ranges = nominalHertz }
     ∷ (tripRules share (1001 to 1500)
     ++ (tripRules share (1 to 999)
     ++ (tripRules above (1 to 5000)

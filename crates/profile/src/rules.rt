@@ -10,8 +10,9 @@ ghost use mathlib.Core.Path.{_≡_};
 ghost use mathlib.Core.Bool.{_&&_};
 ghost use mathlib.Core.List.{[], _∷_};
 ghost use lib.ListN.{take, drop};
-ghost use Rattle.profile.specs.Rules.{_to_, contains, kindOf, sizeOf, number, tripFields, rateFields, fieldsOf};
-ghost use Rattle.profile.specs.Rules.{GP1, kindFor, lineKind, tripRules, rateRules, rules, obeys};
+ghost use Rattle.profile.specs.Rules.{_to_, contains, inOneOf, kindOf, sizeOf, number};
+ghost use Rattle.profile.specs.Rules.{tripFields, rateFields, fieldsOf};
+ghost use Rattle.profile.specs.Rules.{GP1, kindFor, lineKind, nominalHertz, tripRules, rateRules, rules, obeys};
 ghost use Rattle.profile.specs.Rules.{classes, classIn, isClass, letters};
 ghost use Rattle.profile.specs.Rules.{valid as validUnder};
 
@@ -64,6 +65,13 @@ pub fn is_letter(b: u8) -> bool
     b >= b'A' && b <= b'Z'
 }
 
+// 50 or 60.
+pub fn is_nominal_hertz(hertz: u32) -> bool
+    ensures { λ r. ⌜ r ≡ inOneOf nominalHertz hertz ⌝ }
+{
+    hertz == 50 || hertz == 60
+}
+
 // Both letters of a country.
 fn country_obeys(c: Country) -> bool
     ensures { λ r. ⌜ r ≡ (contains letters (c .first) && contains letters (c .second)) ⌝ }
@@ -84,7 +92,7 @@ fn ratings_obey(serial: u32, volts: u32, hertz: u32) -> bool
     if !within(volts, 100, 1000) {
         return false;
     }
-    hertz == 50 || hertz == 60
+    is_nominal_hertz(hertz)
 }
 
 // A trip point of a kind, with its limit in a range.

@@ -1,5 +1,5 @@
 -- Laws of keys and of choices between two results. Assumes nothing.
-use mathlib.Core.Path.{_≡_, refl, _∙_, sym}
+use mathlib.Core.Path.{_≡_, refl, _∙_, sym, ap}
 use mathlib.Core.Bool.{Bool, true, false, _&&_, _||_}
 use mathlib.Core.List.{List, [], _∷_}
 use Prim.Native.Nat.{ℕ, _<_}
@@ -13,7 +13,7 @@ use Rattle.profile.specs.Rules.{Class, contains, letters, classIn, isClass, val
 use Rattle.profile.proofs.RuleLaws.{parts}
 use Rattle.store.specs.declared.Key.{Key}
 use Rattle.store.specs.declared.Device.{Device}
-use Rattle.store.specs.Keys.{sameKey, hasClass, deviceOk}
+use Rattle.store.specs.Keys.{keyOf, deviceKey, sameKey, hasClass, deviceOk}
 
 -- ---- tests and choices
 
@@ -146,9 +146,11 @@ class-known (c ∷ cs) volts letter e = go (contains (c .volts) volts) e (class-
     go false e rest = or-second (eqb letter (c .letter)) (hasClass cs letter) (rest e)
 
 pub device-of-valid : (table : List Class) (profile : Profile) (device : Device) → T (valid table profile)
-    → device .country ≡ profile .country → device .class ≡ profile .class → deviceOk table device ≡ true
-device-of-valid table profile device ok country class =
+    → deviceKey device ≡ keyOf profile → deviceOk table device ≡ true
+device-of-valid table profile device ok its =
     let rules = parts table profile ok in
+    let country : device .country ≡ profile .country = ap (λ (k : Key). k .country) its in
+    let class : device .class ≡ profile .class = ap (λ (k : Key). k .class) its in
     let first : contains letters (device .country .first) ≡ true = rw country (rules .first) in
     let second : contains letters (device .country .second) ≡ true = rw country (rules .second) in
     device-class table device first second
