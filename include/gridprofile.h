@@ -33,11 +33,11 @@ extern "C" {
 #define GRIDPROFILE_BAD_FIELD 3       /* a field or number out of range, or a spare bit that is 1 */
 #define GRIDPROFILE_MISMATCH 4        /* a recomputed digest differs */
 #define GRIDPROFILE_BAD_PROFILE 5     /* a line or profile breaks a field rule */
-#define GRIDPROFILE_OTHER_DEVICE 6    /* not for this device's country and class */
-#define GRIDPROFILE_OLD_SERIAL 7      /* serial not greater than the stored one */
-#define GRIDPROFILE_STORE_FULL 8      /* no room for another country and class */
-#define GRIDPROFILE_NOT_STORED 9      /* nothing stored under this country and class */
-#define GRIDPROFILE_BAD_DEVICE 10     /* a device country or class that does not exist */
+#define GRIDPROFILE_OTHER_DEVICE 6    /* not for this device's country, class and hertz */
+#define GRIDPROFILE_OLD_SERIAL 7      /* serial not greater than the stored one of these three */
+#define GRIDPROFILE_STORE_FULL 8      /* no room for another country, class and hertz */
+#define GRIDPROFILE_NOT_STORED 9      /* nothing stored under this country, class and hertz */
+#define GRIDPROFILE_BAD_DEVICE 10     /* a device country, class or hertz that does not exist */
 
 /* Numbers of category 1. */
 #define GRIDPROFILE_PLACES 127           /* places of a vector */
@@ -92,9 +92,9 @@ extern "C" {
 #define GRIDPROFILE_RATE_PRESENT 1  /* and any other number */
 
 /* A preview: its longest input, and its listing, a header and GRIDPROFILE_STORE_SLOTS rows of at
- * most 16 bytes. */
+ * most 19 bytes. */
 #define GRIDPROFILE_PREVIEW_MAX_BYTES 65536
-#define GRIDPROFILE_LISTING_BYTES 277
+#define GRIDPROFILE_LISTING_BYTES 331
 
 /* Packages and the image of a store, in bytes. */
 #define GRIDPROFILE_PACKAGE_MIN_BYTES 19194
@@ -253,9 +253,9 @@ uint8_t gridprofile_write_line(const uint8_t *profile, size_t profile_len, uint8
                                size_t line_len, size_t *length);
 
 /* Lists what a device would hold after the lines of an input: the input is cut after each line feed,
- * each line is stored as if it were signed and the device set to that line's own country and class,
- * refused lines and an unfinished last one are skipped. The listing, a header and then country,
- * class and serial of every stored profile once in some order, stands at the front of
+ * each line is stored as if it were signed and the device set to that line's own country, class and
+ * hertz, refused lines and an unfinished last one are skipped. The listing, a header and then
+ * country, class, hertz and serial of every stored profile once in some order, stands at the front of
  * GRIDPROFILE_LISTING_BYTES lent bytes, and its length in *length; bytes past it are not touched. An
  * input of more than GRIDPROFILE_PREVIEW_MAX_BYTES gives only the text "too long" and a line feed.
  * Refuses with 1 where out_len is another; *length is then as it was.
@@ -275,12 +275,13 @@ uint8_t gridprofile_make_package(const uint8_t *private_seed, size_t private_see
                                  size_t line_len, uint8_t *package, size_t package_len,
                                  size_t *length);
 
-/* Loads a package into a store, on a device that is set to a country (two letters) and a class
- * (the letter's number, 65 to 68). A store is an image of GRIDPROFILE_STORE_IMAGE_BYTES,
- * GRIDPROFILE_STORE_SLOTS images of profiles, all zero when it is empty; a slot whose first byte is
- * 0 is free. A greater serial replaces the stored profile of its country and class in its slot;
- * where none is stored, the profile goes to a free slot, and which one is open. No byte of another
- * slot is written.
+/* Loads a package into a store, on a device that is set to a country (two letters), a class (the
+ * letter's number, 65 to 68) and the hertz of its network (50 or 60). A store is an image of
+ * GRIDPROFILE_STORE_IMAGE_BYTES, GRIDPROFILE_STORE_SLOTS images of profiles, all zero when it is
+ * empty; a slot whose first byte is 0 is free. A greater serial replaces the stored profile of its
+ * country, class and hertz in its slot; where none is stored, the profile goes to a free slot, and
+ * which one is open. No byte of another slot is written: profiles of 50 and of 60 hertz of one
+ * country and class stand side by side, and their serials have nothing to do with each other.
  *
  * Lend it a copy of the store in RAM, never the one that must outlast a loss of power: it writes
  * GRIDPROFILE_PROFILE_IMAGE_BYTES of the image, and a loss of power in between would leave a mix of
@@ -288,26 +289,26 @@ uint8_t gridprofile_make_package(const uint8_t *private_seed, size_t private_see
  * tells whether it is whole, and act by the new profile only then; examples/banks.c shows how on
  * flash.
  *
- * Refuses, in this order, with 10 where country or class are none (a country of another length
- * too); with 1 where image or key have another length or the package has not
- * GRIDPROFILE_PACKAGE_MIN_BYTES to GRIDPROFILE_PACKAGE_MAX_BYTES; with 3, 2 and 4 as
- * gridprofile_verify does; with 5 where the line breaks a rule; with 6 where the profile is for
- * another country or class; with 7 where its serial is not greater than the stored one; with 8
- * where GRIDPROFILE_STORE_SLOTS others are stored.
+ * Refuses, in this order, with 10 where country, class or hertz are none (a country of another
+ * length too; class and hertz may be any numbers); with 1 where image or key have another length or
+ * the package has not GRIDPROFILE_PACKAGE_MIN_BYTES to GRIDPROFILE_PACKAGE_MAX_BYTES; with 3, 2 and 4
+ * as gridprofile_verify does; with 5 where the line breaks a rule; with 6 where the profile is for
+ * another country, class or hertz; with 7 where its serial is not greater than the one stored for
+ * these three; with 8 where nothing is stored for them and GRIDPROFILE_STORE_SLOTS others are.
  * Stack: 16896 bytes. */
 uint8_t gridprofile_load(uint8_t *store, size_t store_len, const uint8_t *key, size_t key_len,
                          const uint8_t *package, size_t package_len, const uint8_t *country,
-                         size_t country_len, uint32_t class_letter);
+                         size_t country_len, uint32_t class_letter, uint32_t hertz);
 
-/* Writes the line of the profile that a store has for a country and class, and its length, as
- * gridprofile_write_line does. Refuses with 10 where country or class are none; with 1 where image
- * or buffer have another length; with 9 where nothing is stored for them; with 5 where what is
+/* Writes the line of the profile that a store has for a country, class and hertz, and its length, as
+ * gridprofile_write_line does. Refuses with 10 where country, class or hertz are none; with 1 where
+ * image or buffer have another length; with 9 where nothing is stored for them; with 5 where what is
  * stored breaks a rule, which is never so in an image of zeros or in what loads made of one.
  * *length is then as it was.
  * Stack: 384 bytes. */
 uint8_t gridprofile_lookup(const uint8_t *store, size_t store_len, const uint8_t *country,
-                           size_t country_len, uint32_t class_letter, uint8_t *line,
-                           size_t line_len, size_t *length);
+                           size_t country_len, uint32_t class_letter, uint32_t hertz,
+                           uint8_t *line, size_t line_len, size_t *length);
 
 #ifdef __cplusplus
 }

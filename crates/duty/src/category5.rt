@@ -74,7 +74,7 @@ pub fn verify_four_rounds(
     }
 }
 
-// A package is made of a line and loaded into a store under the key that make_key wrote, and the device's pair is
+// A package is made of a line and loaded into a store under the key that make_key wrote, and the device's triple is
 // looked up.
 pub fn make_and_load(
     private: &[u8],
@@ -84,20 +84,22 @@ pub fn make_and_load(
     store: &mut [u8],
     country: &[u8],
     class: u32,
+    hertz: u32,
     out: &mut [u8],
 ) -> Loaded
     ensures { λ r.
         ⌜ MakesAndLoads p classes (now (private .entry)) (now (master .entry)) (now (salt .entry)) (now (line .entry))
-        (now (country .entry)) class (now (store .entry)) (now (out .entry)) r (now (store .exit)) (now (out .exit)) ⌝ }
+        (now (country .entry)) class hertz (now (store .entry)) (now (out .entry)) r
+        (now (store .exit)) (now (out .exit)) ⌝ }
 {
     let mut public = [0u8; KEY];
     let mut length: usize = 0;
     let key_answer = make_key(private, &mut public);
     let make_answer = make_package(private, master, salt, line, out, &mut length);
-    let load_answer = load(store, &public, &out[..length], country, class);
+    let load_answer = load(store, &public, &out[..length], country, class, hertz);
     let mut found = [0u8; LONGEST];
     let mut found_length: usize = 0;
-    let lookup_answer = lookup(store, country, class, &mut found, &mut found_length);
+    let lookup_answer = lookup(store, country, class, hertz, &mut found, &mut found_length);
     Loaded {
         key: key_answer,
         make: make_answer,

@@ -19,7 +19,7 @@ pub struct FourRounds {
     pub d: u8,
 }
 
-// What making the key, making the package, loading it and looking its pair up answered.
+// What making the key, making the package, loading it and looking its triple up answered.
 pub struct Loaded {
     pub key: u8,
     pub make: u8,

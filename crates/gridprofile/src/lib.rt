@@ -83,12 +83,13 @@ pub extern "C" fn gridprofile_lookup(
     store: &[u8],
     country: &[u8],
     class: u32,
+    hertz: u32,
     out: &mut [u8],
     length: &mut usize,
 ) -> u8
     ensures { λ r.
-        ⌜ LooksUp classes (now (store .entry)) (now (country .entry)) class (now (out .entry)) (now (length .entry)) r
-        (now (out .exit)) (now (length .exit)) ⌝ }
+        ⌜ LooksUp classes (now (store .entry)) (now (country .entry)) class hertz (now (out .entry))
+        (now (length .entry)) r (now (out .exit)) (now (length .exit)) ⌝ }
 {
-    store::lookup(store, country, class, out, length)
+    store::lookup(store, country, class, hertz, out, length)
 }

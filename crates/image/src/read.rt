@@ -15,7 +15,8 @@ fn join(a: u8, b: u8, c: u8, d: u8) -> u32
     (a as u32) + 256 * ((b as u32) + 256 * ((c as u32) + 256 * (d as u32)))
 }
 
-fn word_at(image: &[u8], at: usize) -> u32
+// The number at a place.
+pub fn word_at(image: &[u8], at: usize) -> u32
     requires { ⌜ at + 4 ≤ length (now image) ⌝ }
     ensures { λ r. ⌜ r ≡ wordAt (now (image .entry)) at ⌝ }
 {

@@ -62,13 +62,13 @@ use Rattle.package.proofs.Runs.{image-reached, Stored, run-found}
 
 -- ---- a lookup that finds a valid profile
 
-module _ (table : List Class) (image country : List ℕ) (class : ℕ) (profile : Profile) (two : length country ≡ 2)
-    (fine : deviceOk table (deviceOf country class) ≡ true) (size : length image ≡ storeSize)
-    (found : foundIn table image country class ≡ done profile) (ok : T (valid table profile)) where
-  pub finds-line : FindsLine table image country class (lineOf profile)
+module _ (table : List Class) (image country : List ℕ) (class hertz : ℕ) (profile : Profile) (two : length country ≡ 2)
+    (fine : deviceOk table (deviceOf country class hertz) ≡ true) (size : length image ≡ storeSize)
+    (found : foundIn table image country class hertz ≡ done profile) (ok : T (valid table profile)) where
+  pub finds-line : FindsLine table image country class hertz (lineOf profile)
   finds-line old before answer lent after room looks =
       let rules : valid table profile ≡ true = holds (valid table profile) ok in
-      let zero : firstRefusal (lookupLineChecks table image country class old) ≡ 0 =
+      let zero : firstRefusal (lookupLineChecks table image country class hertz old) ≡ 0 =
       rw (eq-eqb (length country) 2 two, fine, eq-eqb (length image) storeSize size)
       (rw (eq-eqb (length old) longest room, found) (rw rules)) in
       let answered : answer ≡ 0 = looks .answers .answer ∙ zero in
@@ -80,16 +80,16 @@ module _ (table : List Class) (image country : List ℕ) (class : ℕ) (profile 
 
 module _ (table : List Class) (p : Params) where
   pub loaded-found : LoadedFound table p
-  loaded-found key sealed country class old answer new loads e =
-      let t = accepted p table key sealed country class old answer new loads e in
-      let device : Device = deviceOf country class in
+  loaded-found key sealed country class hertz old answer new loads e =
+      let t = accepted p table key sealed country class hertz old answer new loads e in
+      let device : Device = deviceOf country class hertz in
       let back = writes-read table (lineIn p sealed) (t .profile) (t .reads) in
       let size = taken-size (eqb-true (length old) storeSize (t .passes .whole)) (t .taken) in
       let its = put-passed device (t .profile) (stored old) (t .puts) .0 in
       let found =
       lookup-stored table device (t .profile) (stored old) (stored new) (t .taken .stores) (t .passes .device-ok) its in
-      subst (FindsLine table new country class) (back .0)
-      (finds-line table new country class (t .profile) (eqb-true (length country) 2 (t .passes .two))
+      subst (FindsLine table new country class hertz) (back .0)
+      (finds-line table new country class hertz (t .profile) (eqb-true (length country) 2 (t .passes .two))
       (t .passes .device-ok) size found (back .1))
 
   pub line-loads : Sound p → LineLoads table p
@@ -98,16 +98,16 @@ module _ (table : List Class) (p : Params) where
       let back = writes-read table line (m .profile) (m .read) in (
         m .profile,
         m .read,
-        λ country class old answer new two own whole newer room loads.
+        λ country class hertz old answer new two own whole newer room loads.
             let both =
-            made-loads p table sound private master salt (m .profile) lent sealed before size country class old answer
-            new (m .makes) two own whole newer room loads in
-            let fine = device-of-valid table (m .profile) (deviceOf country class) (back .1) own in
+            made-loads p table sound private master salt (m .profile) lent sealed before size country class hertz old
+            answer new (m .makes) two own whole newer room loads in
+            let fine = device-of-valid table (m .profile) (deviceOf country class hertz) (back .1) own in
             let kept = taken-size whole (loads .taken (both .0) .2) in (
               both .0,
               both .1,
-              subst (FindsLine table new country class) (back .0)
-                  (finds-line table new country class (m .profile) two fine kept (both .1) (back .1)),
+              subst (FindsLine table new country class hertz) (back .0)
+                  (finds-line table new country class hertz (m .profile) two fine kept (both .1) (back .1)),
             ),
       )
 
@@ -120,15 +120,15 @@ module _ (table : List Class) (loads : List Load) (image : List ℕ) (run : Made
   held : Holds table (callsBy table loads) (stored image)
   held = reached-hold table (callsBy table loads) (stored image) (image-reached table loads image run .1)
 
-  module _ (country : List ℕ) (class : ℕ) (old : List ℕ) where
+  module _ (country : List ℕ) (class hertz : ℕ) (old : List ℕ) where
     abbrev device : Device
-    device = deviceOf country class
+    device = deviceOf country class hertz
 
     abbrev inMap : Result Profile
     inMap = find (deviceKey device) (mapBy table loads)
 
     -- what a sound setting finds
-    found-map : deviceOk table device ≡ true → foundIn table image country class ≡ inMap
+    found-map : deviceOk table device ≡ true → foundIn table image country class hertz ≡ inMap
     found-map fine = lookup-sound table device (stored image) fine ∙ held .as-map (deviceKey device)
 
     -- what is found is valid
@@ -140,8 +140,8 @@ module _ (table : List Class) (loads : List Load) (image : List ℕ) (run : Made
         ap (λ (b : Bool). pick b 0 5) (holds (valid table q) ok)
     no-broken (refused r) e = refl
 
-    same-number : firstRefusal (lookupLineChecks table image country class old)
-        ≡ firstRefusal (mapChecks table loads country class old)
+    same-number : firstRefusal (lookupLineChecks table image country class hertz old)
+        ≡ firstRefusal (mapChecks table loads country class hertz old)
     same-number = go (eqb (length country) 2) (deviceOk table device) refl
       where
         go : (two fine : Bool) → deviceOk table device ≡ fine
@@ -150,8 +150,8 @@ module _ (table : List Class) (loads : List Load) (image : List ℕ) (run : Made
             ∷ bad-device unless fine
             ∷ bad-size unless eqb (length image) storeSize
             ∷ bad-size unless eqb (length old) longest
-            ∷ not-stored unless isDone (foundIn table image country class)
-            ∷ bad-profile unless validIn table (foundIn table image country class)
+            ∷ not-stored unless isDone (foundIn table image country class hertz)
+            ∷ bad-profile unless validIn table (foundIn table image country class hertz)
             ∷ [])
             ≡ firstRefusal
             (bad-device unless two
@@ -166,27 +166,27 @@ module _ (table : List Class) (loads : List Load) (image : List ℕ) (run : Made
             (ap (λ (n : ℕ). pick (eqb (length old) longest) n 1) (no-broken inMap refl))
 
     module _ (before answer : ℕ) (lent : List ℕ) (after : ℕ)
-        (looks : LooksUp table image country class old before answer lent after) where
-      passes : answer ≡ 0 → firstRefusal (lookupLineChecks table image country class old) ≡ 0
+        (looks : LooksUp table image country class hertz old before answer lent after) where
+      passes : answer ≡ 0 → firstRefusal (lookupLineChecks table image country class hertz old) ≡ 0
       passes e = sym (looks .answers .answer) ∙ e
 
       settled : answer ≡ 0 → deviceOk table device ≡ true
       settled e =
-          holds (deviceOk table device) (passed (lookupLineChecks table image country class old) (passes e) .1 .0)
+          holds (deviceOk table device) (passed (lookupLineChecks table image country class hertz old) (passes e) .1 .0)
 
-      answers-map : AnswersFront (mapChecks table loads country class old) (foundLine inMap) old before answer lent
-          after
+      answers-map : AnswersFront (mapChecks table loads country class hertz old) (foundLine inMap) old before answer
+          lent after
       answers-map = front-as same-number (λ e. ap foundLine (found-map (settled e))) looks
 
 pub as-map : (table : List Class) → AsMap table
-as-map table loads image country class old before answer lent after run looks =
-    answers-map table loads image run country class old before answer lent after looks
+as-map table loads image country class hertz old before answer lent after run looks =
+    answers-map table loads image run country class hertz old before answer lent after looks
 
 pub none-broken : (table : List Class) → NoneBroken table
-none-broken table loads image country class old before answer lent after run looks five =
-    go (eqb (length country) 2) (deviceOk table (deviceOf country class)) (eqb (length old) longest)
-    (isStored (deviceKey (deviceOf country class)) (mapBy table loads))
-    (sym (as-map table loads image country class old before answer lent after run looks .answers .answer) ∙ five)
+none-broken table loads image country class hertz old before answer lent after run looks five =
+    go (eqb (length country) 2) (deviceOk table (deviceOf country class hertz)) (eqb (length old) longest)
+    (isStored (deviceKey (deviceOf country class hertz)) (mapBy table loads))
+    (sym (as-map table loads image country class hertz old before answer lent after run looks .answers .answer) ∙ five)
   where
     go : (a b c d : Bool)
         → firstRefusal
@@ -205,14 +205,15 @@ the-done (done q) t = (q, refl)
 the-done (refused r) t = absurd t
 
 -- a load that was answered 0 and stored q: its line is that of q, and is signed
-came-in : (table : List Class) (loads : List Load) (country : List ℕ) (class : ℕ) (q : Profile) (line : List ℕ)
-    → line ≡ lineOf q → Stored table (replicate storeSize 0) loads (deviceKey (deviceOf country class)) q
-    → CameIn table loads country class line
+came-in : (table : List Class) (loads : List Load) (country : List ℕ) (class hertz : ℕ) (q : Profile) (line : List ℕ)
+    → line ≡ lineOf q → Stored table (replicate storeSize 0) loads (deviceKey (deviceOf country class hertz)) q
+    → CameIn table loads country class hertz line
 unfolding signatureIn lineIn
-came-in table loads country class q line is w =
+came-in table loads country class hertz q line is w =
     let l = w .load in
     let t =
-    accepted (l .sizes) table (l .key) (l .sealed) (l .country) (l .class) (w .found) 0 (w .left) (w .answered) refl in
+    accepted (l .sizes) table (l .key) (l .sealed) (l .country) (l .class) (l .hertz) (w .found) 0 (w .left)
+    (w .answered) refl in
     let same : line ≡ lineIn (l .sizes) (l .sealed) =
     is ∙ writes-read table (lineIn (l .sizes) (l .sealed)) q (w .reads) .0 in
     record {
@@ -231,10 +232,10 @@ came-in table loads country class q line is w =
 
 pub looked-up-came-in : (table : List Class) → LookedUpCameIn table
 unfolding find
-looked-up-came-in table loads image country class old before answer lent after run looks e =
-    let device : Device = deviceOf country class in
-    let tests = passed (lookupLineChecks table image country class old) (sym (looks .answers .answer) ∙ e) in
-    let found = the-done (foundIn table image country class) (tests .1 .1 .1 .1 .0) in
+looked-up-came-in table loads image country class hertz old before answer lent after run looks e =
+    let device : Device = deviceOf country class hertz in
+    let tests = passed (lookupLineChecks table image country class hertz old) (sym (looks .answers .answer) ∙ e) in
+    let found = the-done (foundIn table image country class hertz) (tests .1 .1 .1 .1 .0) in
     let q = found .0 in
     let stands : find (deviceKey device) (stored image) ≡ done q =
     lookup-find table device (stored image) q (found .1) in
@@ -243,7 +244,7 @@ looked-up-came-in table loads image country class old before answer lent after r
     let line : take after lent ≡ lineOf q =
     rw content (take-at (lineOf q) (drop (length (lineOf q)) old) after (sym long)) in
     let size = length-replicate {A = ℕ} storeSize 0 in
-    came-in table loads country class q (take after lent) line
+    came-in table loads country class hertz q (take after lent) line
     (from (run-found table loads (replicate storeSize 0) image size run (deviceKey device) q stands))
   where
     from : {k : Key} {q : Profile}

@@ -35,15 +35,15 @@ opened-kinds p table key sealed {profile} opens =
     let read = sym (opened-passed p table key sealed (found .0)) ∙ found .1 in
     valid-fits table profile (writes-read table (lineIn p sealed) profile read .1) .kinds
 
-module _ (p : Params) (table : List Class) (key sealed country : List ℕ) (class : ℕ) (old : List ℕ) where
+module _ (p : Params) (table : List Class) (key sealed country : List ℕ) (class hertz : ℕ) (old : List ℕ) where
   abbrev All : List Check
-  All = loadChecks p table key sealed country class old
+  All = loadChecks p table key sealed country class hertz old
 
   abbrev device : Device
-  device = deviceOf country class
+  device = deviceOf country class hertz
 
   abbrev Answered : ℕ → List ℕ → Type 0
-  Answered = Loads p table key sealed country class old
+  Answered = Loads p table key sealed country class hertz old
 
   -- a refusal, and all bytes as they were
   refuses : (k : ℕ) → k ≡ firstRefusal All → (k ≡ 0 → ⊥) → Answered k old
@@ -92,7 +92,7 @@ module _ (p : Params) (table : List Class) (key sealed country : List ℕ) (clas
             let refusal = refusal-opened p table key sealed opens in
             refuses k (stops Opening Storing (refusal .0) (refusal .1) ∙ sym behind) (refusal .1)
 
-        -- for the device that the program made of country and class
+        -- for the device that the program made of country, class and hertz
         pub load-put : {profile : Profile} {r : ℕ} {new : List ℕ} (its : Device) → its ≡ device
             → Opens p table key sealed (opening.Profile profile) → Puts its profile old r new → Answered r new
         load-put {profile} {r} {new} its same opens done-with =

@@ -71,8 +71,8 @@ module _ (table : List Class) (l : Load) (old next : List ℕ) (answer : ℕ) (s
   abbrev opening : Result Profile
   opening = opened (l .sizes) table (l .key) (l .sealed)
 
-  took : answer ≡ 0 → Accepted (l .sizes) table (l .key) (l .sealed) (l .country) (l .class) old next
-  took e = accepted (l .sizes) table (l .key) (l .sealed) (l .country) (l .class) old answer next loads e
+  took : answer ≡ 0 → Accepted (l .sizes) table (l .key) (l .sealed) (l .country) (l .class) (l .hertz) old next
+  took e = accepted (l .sizes) table (l .key) (l .sealed) (l .country) (l .class) (l .hertz) old answer next loads e
 
   -- an accepted load has a sound setting, and its package opens to what was taken
   is-set : answer ≡ 0 → Set ≡ true
@@ -83,7 +83,8 @@ module _ (table : List Class) (l : Load) (old next : List ℕ) (answer : ℕ) (s
       let passes = took e .passes in
       let two = eqb-true (length (l .country)) 2 (passes .two) in
       opened-passed (l .sizes) table (l .key) (l .sealed)
-      (load-opens (l .sizes) table (l .key) (l .sealed) (l .country) (l .class) old two (passes .device-ok) size
+      (load-opens (l .sizes) table (l .key) (l .sealed) (l .country) (l .class) (l .hertz) old two
+      (passes .device-ok) size
       (sym (loads .answers) ∙ e))
       ∙ took e .reads
 
@@ -94,7 +95,8 @@ module _ (table : List Class) (l : Load) (old next : List ℕ) (answer : ℕ) (s
       let sound = both-true (eqb (length (l .country)) 2) (deviceOk table (settingOf l)) set in
       let two = eqb-true (length (l .country)) 2 (sound .0) in
       loads .answers
-      ∙ load-number (l .sizes) table (l .key) (l .sealed) (l .country) (l .class) old two (sound .1) size profile found
+      ∙ load-number (l .sizes) table (l .key) (l .sealed) (l .country) (l .class) (l .hertz) old two (sound .1) size
+      profile found
 
   taken-of : (profile : Profile) → opening ≡ done profile → answer ≡ 0 → Stores profile (stored old) (stored next)
   taken-of profile found e =

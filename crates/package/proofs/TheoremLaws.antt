@@ -56,21 +56,22 @@ made-passed p table private master salt profile lent e =
 -- ---- loading
 
 -- the stages of loading, each answered 0
-pub record LoadPassed (p : Params) (table : List Class) (key sealed country : List ℕ) (class : ℕ)
+pub record LoadPassed (p : Params) (table : List Class) (key sealed country : List ℕ) (class hertz : ℕ)
     (old : List ℕ) : Type 0 where
   pub two : eqb (length country) 2 ≡ true
-  pub device-ok : deviceOk table (deviceOf country class) ≡ true
+  pub device-ok : deviceOk table (deviceOf country class hertz) ≡ true
   pub whole : eqb (length old) storeSize ≡ true
   pub sized : firstRefusal (openSizes p (length key) (length sealed)) ≡ 0
   pub verified : verify p key (lineIn p sealed) (signatureIn p sealed) ≡ 0
   pub read : firstRefusal (refusalIn (readLine table (lineIn p sealed))) ≡ 0
-  pub storing : firstRefusal (storeChecks (deviceOf country class) (stored old) (readLine table (lineIn p sealed))) ≡ 0
+  pub storing :
+      firstRefusal (storeChecks (deviceOf country class hertz) (stored old) (readLine table (lineIn p sealed))) ≡ 0
 
-module _ (p : Params) (table : List Class) (key sealed country : List ℕ) (class : ℕ) (old : List ℕ) where
+module _ (p : Params) (table : List Class) (key sealed country : List ℕ) (class hertz : ℕ) (old : List ℕ) where
   abbrev front : List Check
   front =
       bad-device unless eqb (length country) 2
-      ∷ bad-device unless deviceOk table (deviceOf country class)
+      ∷ bad-device unless deviceOk table (deviceOf country class hertz)
       ∷ bad-size unless eqb (length old) storeSize
       ∷ []
 
@@ -87,16 +88,16 @@ module _ (p : Params) (table : List Class) (key sealed country : List ℕ) (clas
   opens = openChecks p table key sealed
 
   abbrev stores : List Check
-  stores = storeChecks (deviceOf country class) (stored old) (opened p table key sealed)
+  stores = storeChecks (deviceOf country class hertz) (stored old) (opened p table key sealed)
 
   -- what is stored is what was read
   stores-read : firstRefusal opens ≡ 0
       → firstRefusal stores
-      ≡ firstRefusal (storeChecks (deviceOf country class) (stored old) (readLine table (lineIn p sealed)))
+      ≡ firstRefusal (storeChecks (deviceOf country class hertz) (stored old) (readLine table (lineIn p sealed)))
   stores-read e = rw (opened-passed p table key sealed e) refl
 
-  pub load-passed : firstRefusal (loadChecks p table key sealed country class old) ≡ 0
-      → LoadPassed p table key sealed country class old
+  pub load-passed : firstRefusal (loadChecks p table key sealed country class hertz old) ≡ 0
+      → LoadPassed p table key sealed country class hertz old
   unfolding loadChecks openChecks verify
   load-passed e =
       let first = both-passed front (opens ++ stores) e in
@@ -106,7 +107,7 @@ module _ (p : Params) (table : List Class) (key sealed country : List ℕ) (clas
       let tests = passed front (first .0) in
       record {
         two = holds (eqb (length country) 2) (tests .0);
-        device-ok = holds (deviceOk table (deviceOf country class)) (tests .1 .0);
+        device-ok = holds (deviceOk table (deviceOf country class hertz)) (tests .1 .0);
         whole = holds (eqb (length old) storeSize) (tests .1 .1 .0);
         sized = third .0;
         verified = fourth .0;
@@ -114,8 +115,8 @@ module _ (p : Params) (table : List Class) (key sealed country : List ℕ) (clas
         storing = sym (stores-read (second .0)) ∙ second .1;
       }
 
-  pub load-accepts : LoadPassed p table key sealed country class old
-      → firstRefusal (loadChecks p table key sealed country class old) ≡ 0
+  pub load-accepts : LoadPassed p table key sealed country class hertz old
+      → firstRefusal (loadChecks p table key sealed country class hertz old) ≡ 0
   unfolding loadChecks openChecks verify
   load-accepts all =
       let opening : firstRefusal opens ≡ 0 =
@@ -150,12 +151,12 @@ module _ (p : Params) (sig line : List ℕ) (sized : length sig ≡ signatureSiz
 -- ---- the package of a valid profile whose signature verifies is accepted where device and store are right and putting
 -- is accepted
 
-module _ (p : Params) (table : List Class) (key sig country : List ℕ) (class : ℕ) (profile : Profile)
+module _ (p : Params) (table : List Class) (key sig country : List ℕ) (class hertz : ℕ) (profile : Profile)
     (old : List ℕ) where
   pub package-loads : T (valid table profile) → length sig ≡ signatureSize p → verify p key (lineOf profile) sig ≡ 0
-      → length country ≡ 2 → deviceOk table (deviceOf country class) ≡ true → length old ≡ storeSize
-      → putNumber (deviceOf country class) profile (stored old) ≡ 0
-      → firstRefusal (loadChecks p table key (sig ++ lineOf profile) country class old) ≡ 0
+      → length country ≡ 2 → deviceOk table (deviceOf country class hertz) ≡ true → length old ≡ storeSize
+      → putNumber (deviceOf country class hertz) profile (stored old) ≡ 0
+      → firstRefusal (loadChecks p table key (sig ++ lineOf profile) country class hertz old) ≡ 0
   package-loads ok sized verified two fine whole put =
       let sealed : List ℕ = sig ++ lineOf profile in
       let line : lineIn p sealed ≡ lineOf profile = line-back p sig (lineOf profile) sized in
@@ -163,7 +164,7 @@ module _ (p : Params) (table : List Class) (key sig country : List ℕ) (class :
       let long : length sealed ≡ signatureSize p + length (lineOf profile) =
       length-append sig (lineOf profile) ∙ ap (λ (k : ℕ). k + length (lineOf profile)) sized in
       let read : readLine table (lineIn p sealed) ≡ done profile = rw line (reads-written table profile ok) in
-      load-accepts p table key sealed country class old
+      load-accepts p table key sealed country class hertz old
       (record {
         two = eq-eqb (length country) 2 two;
         device-ok = fine;
@@ -174,5 +175,5 @@ module _ (p : Params) (table : List Class) (key sig country : List ℕ) (class :
         );
         verified = rw (line, signature-back p sig (lineOf profile) sized) verified;
         read = rw read refl;
-        storing = storing-put p table sealed (deviceOf country class) (stored old) profile read ∙ put;
+        storing = storing-put p table sealed (deviceOf country class hertz) (stored old) profile read ∙ put;
       })

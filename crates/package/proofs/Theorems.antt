@@ -1,8 +1,9 @@
 -- The theorems of specs/Theorems.antt. Assumes nothing.
-use mathlib.Core.Path.{_≡_, _∙_, sym, subst}
+use mathlib.Core.Path.{_≡_, _∙_, sym, ap, subst}
 use mathlib.Core.Bool.{true}
 use mathlib.Core.List.{List, _++_}
 use Prim.Native.Nat.{ℕ}
+use native.Mathlib.Decide.{ℕ-discrete}
 use lib.ListN.{length, take, drop, take-append-drop}
 use lib.Seq.{take-at}
 use borrow.Author.Tests.{eqb-true}
@@ -21,15 +22,15 @@ use Rattle.scheme.proofs.Accepted.{accepted as verifies, length-signature}
 use Rattle.store.specs.declared.Device.{Device}
 use Rattle.store.specs.Keys.{keyOf, deviceOf, deviceKey, sameKey, deviceOk}
 use Rattle.store.specs.Stored.{storeSize, stored}
-use Rattle.store.specs.Calls.{putNumber, Stores, Taken}
+use Rattle.store.specs.Calls.{lookupIn, putNumber, Stores, Taken}
 use Rattle.store.specs.Reached.{Reached}
-use Rattle.store.proofs.KeyLaws.{same-eq, same-refl, device-of-valid}
-use Rattle.store.proofs.LookupLaws.{lookup-stored}
+use Rattle.store.proofs.KeyLaws.{same-eq, same-refl, key-apart, device-of-valid}
+use Rattle.store.proofs.LookupLaws.{lookup-stored, lookup-other}
 use Rattle.store.proofs.PutLaws.{put-accepts, put-passed, takes}
 use Rattle.store.proofs.Reached.{reached-put}
 use Rattle.package.specs.Package.{packageOf, signatureIn, lineIn, loadChecks}
 use Rattle.package.specs.Entries.{MakesPackage, Loads}
-use Rattle.package.specs.Theorems.{MadeLoads, NothingElse, LoadReaches}
+use Rattle.package.specs.Theorems.{MadeLoads, NothingElse, OthersKept, LoadReaches}
 use Rattle.package.proofs.TheoremLaws.{
   made-passed,
   LoadPassed,
@@ -41,35 +42,35 @@ use Rattle.package.proofs.TheoremLaws.{
 
 -- ---- what an accepted load says
 
-pub record Accepted (p : Params) (table : List Class) (key sealed country : List ℕ) (class : ℕ)
+pub record Accepted (p : Params) (table : List Class) (key sealed country : List ℕ) (class hertz : ℕ)
     (old new : List ℕ) : Type 0 where
   pub profile : Profile
   pub reads : readLine table (lineIn p sealed) ≡ done profile
   pub taken : Taken profile old new
-  pub passes : LoadPassed p table key sealed country class old
-  pub puts : putNumber (deviceOf country class) profile (stored old) ≡ 0
+  pub passes : LoadPassed p table key sealed country class hertz old
+  pub puts : putNumber (deviceOf country class hertz) profile (stored old) ≡ 0
 
 module _ (p : Params) (table : List Class) where
-  pub accepted : (key sealed country : List ℕ) (class : ℕ) (old : List ℕ) (answer : ℕ) (new : List ℕ)
-      → Loads p table key sealed country class old answer new → answer ≡ 0
-      → Accepted p table key sealed country class old new
-  accepted key sealed country class old answer new loads e =
+  pub accepted : (key sealed country : List ℕ) (class hertz : ℕ) (old : List ℕ) (answer : ℕ) (new : List ℕ)
+      → Loads p table key sealed country class hertz old answer new → answer ≡ 0
+      → Accepted p table key sealed country class hertz old new
+  accepted key sealed country class hertz old answer new loads e =
       let found = loads .taken e in
-      let passes = load-passed p table key sealed country class old (sym (loads .answers) ∙ e) in
+      let passes = load-passed p table key sealed country class hertz old (sym (loads .answers) ∙ e) in
       record {
         profile = found .0;
         reads = found .1;
         taken = found .2;
         passes = passes;
-        puts = sym (storing-put p table sealed (deviceOf country class) (stored old) (found .0) (found .1))
+        puts = sym (storing-put p table sealed (deviceOf country class hertz) (stored old) (found .0) (found .1))
             ∙ passes .storing;
       }
 
   pub nothing-else : NothingElse p table
   unfolding signatureIn lineIn
-  nothing-else key sealed country class old answer new loads e =
-      let t = accepted key sealed country class old answer new loads e in
-      let device : Device = deviceOf country class in
+  nothing-else key sealed country class hertz old answer new loads e =
+      let t = accepted key sealed country class hertz old answer new loads e in
+      let device : Device = deviceOf country class hertz in
       let written = writes-read table (lineIn p sealed) (t .profile) (t .reads) in
       let own = put-passed device (t .profile) (stored old) (t .puts) .0 in
       let same = same-eq (keyOf (t .profile)) (deviceKey device) own in (
@@ -81,15 +82,26 @@ module _ (p : Params) (table : List Class) where
         rw (written .0) (t .passes .verified),
       )
 
+  pub others-kept : OthersKept p table
+  others-kept key sealed country class hertz old answer new other loads differ = go (ℕ-discrete answer 0)
+    where
+      go : Dec (answer ≡ 0) → lookupIn table other (stored new) ≡ lookupIn table other (stored old)
+      go (yes e) =
+          let all = nothing-else key sealed country class hertz old answer new loads e in
+          let apart = key-apart (keyOf (all .0)) (deviceKey other) (λ same. differ (sym same ∙ all .3)) in
+          lookup-other table other (all .0) (stored old) (stored new) (all .1 .stores) apart
+      go (no ne) = ap (λ (image : List ℕ). lookupIn table other (stored image)) (loads .kept ne)
+
   pub load-reaches : LoadReaches p table
-  load-reaches calls key sealed country class old answer new run loads = (
+  load-reaches calls key sealed country class hertz old answer new run loads = (
     λ e.
-        let t = accepted key sealed country class old answer new loads e in
+        let t = accepted key sealed country class hertz old answer new loads e in
         let size = eqb-true (length old) storeSize (t .passes .whole) in
         let ok = writes-read table (lineIn p sealed) (t .profile) (t .reads) .1 in (
           t .profile,
           t .reads,
-          reached-put table calls (deviceOf country class) (t .profile) old 0 new run ok (t .passes .device-ok) size
+          reached-put table calls (deviceOf country class hertz) (t .profile) old 0 new run ok
+              (t .passes .device-ok) size
               (takes size (valid-fits table (t .profile) ok .kinds) (t .puts) (t .taken)),
         ),
     λ ne. subst (λ (image : List ℕ). Reached table calls (stored image)) (sym (loads .kept ne)) run,
@@ -108,9 +120,9 @@ made-whole p table private master salt profile old sealed before size made =
 
 pub made-loads : (p : Params) (table : List Class) → Sound p → MadeLoads p table
 unfolding packageOf
-made-loads p table sound private master salt profile lent sealed before size country class old answer new made two own
-    whole newer room loads =
-    let device : Device = deviceOf country class in
+made-loads p table sound private master salt profile lent sealed before size country class hertz old answer new made two
+    own whole newer room loads =
+    let device : Device = deviceOf country class hertz in
     let sig : List ℕ = signature p private master salt (lineOf profile) in
     let ok = made-passed p table private master salt profile (length lent) (sym (made .answers .answer)) in
     let sized = length-signature p sound private master salt (lineOf profile) (signatureSize p) (ok .1) in
@@ -118,9 +130,10 @@ made-loads p table sound private master salt profile lent sealed before size cou
     made-whole p table private master salt profile lent sealed before size made in
     let its : sameKey (keyOf profile) (deviceKey device) ≡ true = rw (sym own) (same-refl (deviceKey device)) in
     let fine : deviceOk table device ≡ true = device-of-valid table profile device (ok .0) own in
-    let passes : firstRefusal (loadChecks p table (publicKey p private) (take size sealed) country class old) ≡ 0 =
+    let key = publicKey p private in
+    let passes : firstRefusal (loadChecks p table key (take size sealed) country class hertz old) ≡ 0 =
     rw written
-    (package-loads p table (publicKey p private) sig country class profile old (ok .0) sized
+    (package-loads p table key sig country class hertz profile old (ok .0) sized
     (verifies p sound private master salt (lineOf profile) (signatureSize p) (ok .1))
     two fine whole
     (put-accepts device profile (stored old) its newer room)) in

@@ -58,9 +58,9 @@ module _ (p : Params) where
 
   -- With the answer 0 the profile of the package's line stands in one slot of the store's image, whichever the program
   -- chose, and every other byte is as it was; after a refusal all bytes are.
-  pub record Loads (table : List Class) (key sealed country : List ℕ) (class : ℕ) (old : List ℕ) (answer : ℕ)
+  pub record Loads (table : List Class) (key sealed country : List ℕ) (class hertz : ℕ) (old : List ℕ) (answer : ℕ)
       (new : List ℕ) : Type 0 where
-    pub answers : answer ≡ firstRefusal (loadChecks p table key sealed country class old)
+    pub answers : answer ≡ firstRefusal (loadChecks p table key sealed country class hertz old)
     pub taken : answer ≡ 0
         → (profile : Profile) × (readLine table (lineIn p sealed) ≡ done profile) × Taken profile old new
     pub kept : (answer ≡ 0 → ⊥) → new ≡ old

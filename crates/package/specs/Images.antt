@@ -33,9 +33,10 @@ pub record Load : Type 0 where
   pub sealed : List ℕ
   pub country : List ℕ
   pub class : ℕ
+  pub hertz : ℕ
 
 abbrev pub LoadAnswers : List Class → Load → List ℕ → ℕ → List ℕ → Type 0
-LoadAnswers table l = Loads (l .sizes) table (l .key) (l .sealed) (l .country) (l .class)
+LoadAnswers table l = Loads (l .sizes) table (l .key) (l .sealed) (l .country) (l .class) (l .hertz)
 
 -- loads in order, the first of which found one image and the last of which left the other
 abbrev pub LoadRun : List Class → List ℕ → List Load → List ℕ → Type 0
@@ -49,14 +50,14 @@ MadeBy table loads image = LoadRun table (replicate storeSize 0) loads image
 
 -- the setting of the device that a load is for
 abbrev pub settingOf : Load → Device
-settingOf l = deviceOf (l .country) (l .class)
+settingOf l = deviceOf (l .country) (l .class) (l .hertz)
 
 -- what was opened is stored for the device
 abbrev pub callsFor : Device → Result Profile → List Call
 callsFor d (done p) = record { device = d; profile = p } ∷ []
 callsFor d (refused r) = []
 
--- a load is a call of `put` where the device is set to a country and class and the package opens, and else none
+-- a load is a call of `put` where the device is set to a country, class and hertz and the package opens, and else none
 abbrev pub callsOf : List Class → Load → List Call
 callsOf table l =
     pick (eqb (length (l .country)) 2 && deviceOk table (settingOf l))
@@ -82,33 +83,33 @@ module _ (table : List Class) where
   -- ---- looking up in an image that loads made
 
   -- The store answers as a map: a lookup answers 10 for a setting that is none, 1 for a buffer of another size, 9
-  -- where the map has nothing under the device's country and class, and else writes the line of what it has.
-  abbrev pub mapChecks : List Load → List ℕ → ℕ → List ℕ → List Check
-  mapChecks loads country class old =
+  -- where the map has nothing under the device's country, class and hertz, and else writes the line of what it has.
+  abbrev pub mapChecks : List Load → List ℕ → ℕ → ℕ → List ℕ → List Check
+  mapChecks loads country class hertz old =
       bad-device unless eqb (length country) 2
-      ∷ bad-device unless deviceOk table (deviceOf country class)
+      ∷ bad-device unless deviceOk table (deviceOf country class hertz)
       ∷ bad-size unless eqb (length old) longest
-      ∷ not-stored unless isStored (deviceKey (deviceOf country class)) (mapBy table loads)
+      ∷ not-stored unless isStored (deviceKey (deviceOf country class hertz)) (mapBy table loads)
       ∷ []
 
   abbrev pub AsMap : Type 0
   AsMap =
-      (loads : List Load) (image country : List ℕ) (class : ℕ) (old : List ℕ) (before answer : ℕ) (lent : List ℕ)
+      (loads : List Load) (image country : List ℕ) (class hertz : ℕ) (old : List ℕ) (before answer : ℕ) (lent : List ℕ)
       (after : ℕ)
-      → MadeBy table loads image → LooksUp table image country class old before answer lent after
-      → AnswersFront (mapChecks loads country class old)
-      (foundLine (find (deviceKey (deviceOf country class)) (mapBy table loads))) old before answer lent after
+      → MadeBy table loads image → LooksUp table image country class hertz old before answer lent after
+      → AnswersFront (mapChecks loads country class hertz old)
+      (foundLine (find (deviceKey (deviceOf country class hertz)) (mapBy table loads))) old before answer lent after
 
   -- no image that the library made holds a profile that breaks a rule: no lookup in one answers 5
   abbrev pub NoneBroken : Type 0
   NoneBroken =
-      (loads : List Load) (image country : List ℕ) (class : ℕ) (old : List ℕ) (before answer : ℕ) (lent : List ℕ)
+      (loads : List Load) (image country : List ℕ) (class hertz : ℕ) (old : List ℕ) (before answer : ℕ) (lent : List ℕ)
       (after : ℕ)
-      → MadeBy table loads image → LooksUp table image country class old before answer lent after → answer ≡ 5 → ⊥
+      → MadeBy table loads image → LooksUp table image country class hertz old before answer lent after → answer ≡ 5 → ⊥
 
-  -- one of the loads was answered 0 on a device of this country and class, and the verifier answers 0 for the
+  -- one of the loads was answered 0 on a device of this country, class and hertz, and the verifier answers 0 for the
   -- signature of its package over exactly this line
-  pub record CameIn (loads : List Load) (country : List ℕ) (class : ℕ) (line : List ℕ) : Type 0 where
+  pub record CameIn (loads : List Load) (country : List ℕ) (class hertz : ℕ) (line : List ℕ) : Type 0 where
     pub earlier : List Load
     pub load : Load
     pub later : List Load
@@ -117,48 +118,49 @@ module _ (table : List Class) where
     pub order : loads ≡ earlier ++ (load ∷ later)
     pub reached : MadeBy table earlier found
     pub answered : LoadAnswers table load found 0 left
-    pub device : deviceKey (settingOf load) ≡ deviceKey (deviceOf country class)
+    pub device : deviceKey (settingOf load) ≡ deviceKey (deviceOf country class hertz)
     pub parts : load .sealed ≡ signatureIn (load .sizes) (load .sealed) ++ line
     pub verified : verify (load .sizes) (load .key) line (signatureIn (load .sizes) (load .sealed)) ≡ 0
 
   -- nothing else gets in: what a lookup writes came in by such a load
   abbrev pub LookedUpCameIn : Type 0
   LookedUpCameIn =
-      (loads : List Load) (image country : List ℕ) (class : ℕ) (old : List ℕ) (before answer : ℕ) (lent : List ℕ)
+      (loads : List Load) (image country : List ℕ) (class hertz : ℕ) (old : List ℕ) (before answer : ℕ) (lent : List ℕ)
       (after : ℕ)
-      → MadeBy table loads image → LooksUp table image country class old before answer lent after → answer ≡ 0
-      → CameIn loads country class (take after lent)
+      → MadeBy table loads image → LooksUp table image country class hertz old before answer lent after → answer ≡ 0
+      → CameIn loads country class hertz (take after lent)
 
   -- ---- one load, into any image
 
   -- a lookup into a buffer of its size answers 0 and writes this line
-  abbrev pub FindsLine : List ℕ → List ℕ → ℕ → List ℕ → Type 0
-  FindsLine image country class line =
+  abbrev pub FindsLine : List ℕ → List ℕ → ℕ → ℕ → List ℕ → Type 0
+  FindsLine image country class hertz line =
       (old : List ℕ) (before answer : ℕ) (lent : List ℕ) (after : ℕ) → length old ≡ longest
-      → LooksUp table image country class old before answer lent after
+      → LooksUp table image country class hertz old before answer lent after
       → (answer ≡ 0) × (lent ≡ line ++ drop (length line) old) × (after ≡ length line)
 
   module _ (p : Params) where
     -- what was loaded is found: a lookup writes the line of the package
     abbrev pub LoadedFound : Type 0
     LoadedFound =
-        (key sealed country : List ℕ) (class : ℕ) (old : List ℕ) (answer : ℕ) (new : List ℕ)
-        → Loads p table key sealed country class old answer new → answer ≡ 0
-        → FindsLine new country class (lineIn p sealed)
+        (key sealed country : List ℕ) (class hertz : ℕ) (old : List ℕ) (answer : ℕ) (new : List ℕ)
+        → Loads p table key sealed country class hertz old answer new → answer ≡ 0
+        → FindsLine new country class hertz (lineIn p sealed)
 
     -- A package that is made from a line loads: where making answered 0, the line means a profile; and loading what
     -- was made under the key that the rules give for the private seed, on a device that is set to the profile's
-    -- country and class, answers 0 in every image, made by loads or not, that holds no profile of the pair or one with
-    -- a smaller serial, and holds the pair or has room; and the profile is then found, and a lookup writes the line.
+    -- country, class and hertz, answers 0 in every image, made by loads or not, that holds no profile of the triple or
+    -- one with a smaller serial, and holds the triple or has room; and the profile is then found, and a lookup writes
+    -- the line.
     abbrev pub LineLoads : Type 0
     LineLoads =
         (private master salt line lent sealed : List ℕ) (before size : ℕ)
         → MakesFromLine p table private master salt line lent before 0 sealed size
         → (profile : Profile) × (readLine table line ≡ done profile)
-        × ((country : List ℕ) (class : ℕ) (old : List ℕ) (answer : ℕ) (new : List ℕ)
-        → length country ≡ 2 → deviceKey (deviceOf country class) ≡ keyOf profile → length old ≡ storeSize
+        × ((country : List ℕ) (class hertz : ℕ) (old : List ℕ) (answer : ℕ) (new : List ℕ)
+        → length country ≡ 2 → deviceKey (deviceOf country class hertz) ≡ keyOf profile → length old ≡ storeSize
         → newer profile (find (keyOf profile) (stored old)) ≡ true
         → (isStored (keyOf profile) (stored old) || ltb (length (stored old)) capacity) ≡ true
-        → Loads p table (publicKey p private) (take size sealed) country class old answer new
-        → (answer ≡ 0) × (lookupIn table (deviceOf country class) (stored new) ≡ done profile)
-        × FindsLine new country class line)
+        → Loads p table (publicKey p private) (take size sealed) country class hertz old answer new
+        → (answer ≡ 0) × (lookupIn table (deviceOf country class hertz) (stored new) ≡ done profile)
+        × FindsLine new country class hertz line)

@@ -99,11 +99,12 @@ module _ (p : Params) where
 
   -- ---- loading
 
-  -- the device that is set to this country and class; the size of the store's image; opening; then storing what was
-  -- opened
-  unfoldable pub loadChecks : List Class → List ℕ → List ℕ → List ℕ → ℕ → List ℕ → List Check
-  loadChecks table key sealed country class old =
+  -- the device that is set to this country, class and hertz; the size of the store's image; opening; then storing what
+  -- was opened
+  unfoldable pub loadChecks : List Class → List ℕ → List ℕ → List ℕ → ℕ → ℕ → List ℕ → List Check
+  loadChecks table key sealed country class hertz old =
       bad-device unless eqb (length country) 2
-      ∷ bad-device unless deviceOk table (deviceOf country class)
+      ∷ bad-device unless deviceOk table (deviceOf country class hertz)
       ∷ bad-size unless eqb (length old) storeSize
-      ∷ (openChecks table key sealed ++ storeChecks (deviceOf country class) (stored old) (opened table key sealed))
+      ∷ (openChecks table key sealed
+      ++ storeChecks (deviceOf country class hertz) (stored old) (opened table key sealed))

@@ -42,8 +42,8 @@ pub fn open(p: Params, key: &[u8], sealed: &[u8], block: &mut [u8], vs: &mut [u8
     }
 }
 
-// Stores the profile of a package for the device that is set to a country and class. Of the store's image one slot
-// changes.
+// Stores the profile of a package for the device that is set to a country, class and hertz. Of the store's image one
+// slot changes.
 pub fn load(
     p: Params,
     store: &mut [u8],
@@ -51,18 +51,19 @@ pub fn load(
     sealed: &[u8],
     country: &[u8],
     class: u32,
+    hertz: u32,
     block: &mut [u8],
     vs: &mut [u8],
 ) -> u8
     requires { ⌜ Scratch p (now block) (now vs) ⌝ }
     ensures { λ r.
-        ⌜ Loads p classes (now (key .entry)) (now (sealed .entry)) (now (country .entry)) class (now (store .entry)) r
-        (now (store .exit)) ⌝ }
+        ⌜ Loads p classes (now (key .entry)) (now (sealed .entry)) (now (country .entry)) class hertz
+        (now (store .entry)) r (now (store .exit)) ⌝ }
 {
     if country.len() != 2 {
         return BAD_DEVICE;
     }
-    let device = device_of(country, class);
+    let device = device_of(country, class, hertz);
     if !device_ok(device) {
         return BAD_DEVICE;
     }

@@ -2,7 +2,7 @@
 use mathlib.Core.Path.{_≡_, refl, _∙_, sym, ap}
 use mathlib.Core.Bool.{Bool, true, false}
 use mathlib.Core.List.{List, [], _∷_, _++_}
-use Prim.Native.Nat.{ℕ, _≤_, _<_}
+use Prim.Native.Nat.{ℕ, _*_, _≤_, _<_}
 use native.Mathlib.Omega.{arith}
 use lib.Dec.{T, eqb, ltb}
 use lib.ListN.{length, drop, length-append}
@@ -15,7 +15,7 @@ use Rattle.profile.specs.Rules.{Class, valid}
 use Rattle.profile.specs.Line.{readLine}
 use Rattle.profile.proofs.Theorems.{writes-read}
 use Rattle.outcome.specs.Result.{Result, done, refused}
-use Rattle.store.specs.Stored.{insert}
+use Rattle.store.specs.Stored.{capacity, insert}
 use Rattle.store.specs.Reached.{Call, answerTo, Step, ValidCall, Run, Reached, model}
 use Rattle.store.proofs.KeyLaws.{device-of-valid}
 use Rattle.store.proofs.StoredLaws.{find-insert, perm-eq}
@@ -33,15 +33,17 @@ use Rattle.preview.specs.Preview.{
   header,
   tooLong,
   rows,
+  longestRow,
   Shows,
   lentSize,
   previewAnswer,
   Previews,
 }
+use Rattle.preview.proofs.RowLaws.{rows-fit}
 
 -- ---- what is shown
 
--- a valid profile on a device of its own country and class is a valid call
+-- a valid profile on a device of its own country, class and hertz is a valid call
 pub own-valid : (table : List Class) (p : Profile) → T (valid table p)
     → ValidCall table (record { device = ownDevice p; profile = p })
 own-valid table p ok = record { profile = ok; device = device-of-valid table p (ownDevice p) ok refl }
@@ -92,6 +94,13 @@ pub shown-once : (table : List Class) → ShownOnce table
 shown-once table input =
     let holds = reached-hold table (callsIn table (cut input)) (shown table input) (shown-reached table input) in
     (holds .distinct, holds .fits)
+
+-- the rows of what is reached have room
+pub reached-room : (table : List Class) (calls : List Call) (ps : List Profile) → Reached table calls ps
+    → length (rows ps) ≤ longestRow * capacity
+reached-room table calls ps run =
+    let holds = reached-hold table calls ps run in
+    omega (arith, rows-fit table ps (holds .all-valid), holds .fits)
 
 -- ---- the text
 

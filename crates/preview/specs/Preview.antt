@@ -1,9 +1,9 @@
 -- What a device would hold, listed before anything is signed (document 01, "Profile line, package, shelf", the preview
--- program).
+-- program; document 02, M-104, for the hertz).
 -- Assumes nothing.
 use mathlib.Core.Path.{_≡_}
 use mathlib.Core.List.{List, [], _∷_, _++_}
-use Prim.Native.Nat.{ℕ, _-_, _≤_, _<_}
+use Prim.Native.Nat.{ℕ, _-_, _*_, _≤_, _<_}
 use lib.Dec.{eqb}
 use lib.ListN.{length, take, drop}
 use Rattle.outcome.specs.Answer.{bad-size, Check, _unless_, pick, Answers}
@@ -15,7 +15,7 @@ use Rattle.profile.specs.Line.{comma, lineFeed, readLine}
 use Rattle.store.specs.declared.Device.{Device}
 use Rattle.store.specs.Stored.{capacity, slotOf, profilesIn, Distinct}
 use Rattle.store.specs.Calls.{Perm}
-use Rattle.store.specs.Reached.{Call, model}
+use Rattle.store.specs.Reached.{Call, AllValid, model}
 use Rattle.preview.specs.declared.Previewed.{Previewed}
 use Rattle.preview.specs.declared.Previewed.the-variants.{Length, BadSize}
 
@@ -45,9 +45,9 @@ pub record LineAt (input : List ℕ) (at end : ℕ) : Type 0 where
 
 -- ---- what is stored
 
--- a device that is set to a profile's own country and class
+-- a device that is set to a profile's own country, class and hertz
 abbrev pub ownDevice : Profile → Device
-ownDevice p = record { country = p .country; class = p .class }
+ownDevice p = record { country = p .country; class = p .class; hertz = p .hertz }
 
 -- a line that is read as a profile is stored, as if signed, on such a device; a refused one is not
 abbrev pub callsOf : Result Profile → List Call
@@ -69,32 +69,40 @@ ShownOnce table = (input : List ℕ) → Distinct (shown table input) × (length
 
 -- ---- the listing
 
--- `COUNTRY,CLASS,SERIAL` and LF
+-- `COUNTRY,CLASS,HERTZ,SERIAL` and LF
 abbrev pub header : List ℕ
 header =
     67 ∷ 79 ∷ 85 ∷ 78 ∷ 84 ∷ 82 ∷ 89 ∷ 44
     ∷ 67 ∷ 76 ∷ 65 ∷ 83 ∷ 83 ∷ 44
+    ∷ 72 ∷ 69 ∷ 82 ∷ 84 ∷ 90 ∷ 44
     ∷ 83 ∷ 69 ∷ 82 ∷ 73 ∷ 65 ∷ 76 ∷ 10 ∷ []
 
 -- `too long` and LF
 abbrev pub tooLong : List ℕ
 tooLong = 116 ∷ 111 ∷ 111 ∷ 32 ∷ 108 ∷ 111 ∷ 110 ∷ 103 ∷ 10 ∷ []
 
--- country and class, with a comma after each
+-- country, class and hertz, with a comma after each
 abbrev pub keyBytes : Profile → List ℕ
-keyBytes p = p .country .first ∷ p .country .second ∷ comma ∷ p .class ∷ comma ∷ []
+keyBytes p =
+    p .country .first ∷ p .country .second ∷ comma
+    ∷ p .class ∷ comma
+    ∷ (decimal (p .hertz) ++ (comma ∷ []))
 
 -- then the serial and LF
 unfoldable pub row : Profile → List ℕ
 row p = keyBytes p ++ (decimal (p .serial) ++ (lineFeed ∷ []))
 
--- no row is longer, a serial having at most ten digits
-abbrev pub longestRow : ℕ
-longestRow = 16
-
 unfoldable pub rows : List Profile → List ℕ
 rows [] = []
 rows (p ∷ ps) = row p ++ rows ps
+
+-- no row of a valid profile is longer: its hertz have two digits, and a serial has at most ten
+abbrev pub longestRow : ℕ
+longestRow = 19
+
+-- so that the rows of a store that calls reach have room (the proof stands in proofs/RowLaws.antt)
+abbrev pub RowsFit : List Class → Type 0
+RowsFit table = (ps : List Profile) → AllValid table ps → length (rows ps) ≤ longestRow * length ps
 
 -- the profile of a slot of a store's image, where the slot is used
 abbrev pub usedIn : List ℕ → List Profile
@@ -116,7 +124,7 @@ pub record Shows (table : List Class) (input text : List ℕ) : Type 0 where
 
 -- how many bytes are lent: the header and as many rows as a store has slots have room
 abbrev pub lentSize : ℕ
-lentSize = 277
+lentSize = 331
 
 abbrev pub previewChecks : List ℕ → List Check
 previewChecks lent = bad-size unless eqb (length lent) lentSize ∷ []

@@ -13,7 +13,7 @@ use store::STORE_SIZE;
 use store::is_used;
 use store::put;
 ghost use mathlib.Core.Path.{_≡_};
-ghost use Prim.Native.Nat.{_+_, _*_, _≤_};
+ghost use Prim.Native.Nat.{_≤_};
 ghost use lib.Dec.{T};
 ghost use lib.ListN.{length};
 ghost use Rattle.decimal.specs.Decimal.{Room, Appended};
@@ -21,13 +21,13 @@ ghost use Rattle.outcome.specs.Result.{done};
 ghost use Rattle.profile.specs.Rules.{classes, valid};
 ghost use Rattle.profile.specs.Line.{readLine};
 ghost use Rattle.image.specs.Image.{profileSize};
-ghost use Rattle.store.specs.Stored.{capacity, storeSize, stored};
+ghost use Rattle.store.specs.Stored.{storeSize, stored};
 ghost use Rattle.store.specs.Reached.{Run};
-ghost use Rattle.preview.specs.Preview.{cut, callsOf, callsIn, row, rows, usedIn, longestRow, LineAt, Previews};
+ghost use Rattle.preview.specs.Preview.{cut, callsOf, callsIn, keyBytes, row, rows, usedIn, LineAt, Previews};
 ghost use Rattle.preview.specs.Preview.{PreviewsTo};
 
 // How many bytes are lent for the listing: the header and a row for each slot have room.
-pub const LENT_SIZE: usize = 277;
+pub const LENT_SIZE: usize = 331;
 
 // A longer input is not looked at.
 pub const LONGEST_INPUT: usize = 65536;
@@ -54,7 +54,7 @@ fn line_end(input: &[u8], start: usize) -> usize
     start
 }
 
-// Stores a valid profile as a device of its own country and class does.
+// Stores a valid profile as a device of its own country, class and hertz does.
 fn hold(store: &mut [u8], profile: Profile)
     requires { ⌜ length (now store) ≡ storeSize ⌝ }
     requires { ⌜ T (valid classes profile) ⌝ }
@@ -66,6 +66,7 @@ fn hold(store: &mut [u8], profile: Profile)
     let device = Device {
         country: country,
         class: class as u32,
+        hertz: profile.hertz,
     };
     put(store, profile, device);
 }
@@ -110,15 +111,25 @@ fn append_text(text: &[u8], out: &mut [u8]) -> usize
     end
 }
 
-// Writes a profile's row from place `at`, and returns the place after it.
-fn append_row(p: Profile, out: &mut [u8], at: usize) -> usize
-    requires { ⌜ at + longestRow ≤ length (now out) ⌝ }
-    ensures { λ r. ⌜ Appended (now (out .entry)) at (row p) (now (out .exit)) r ⌝ }
-    ensures within { λ r. ⌜ r ≤ at + longestRow ⌝ }
+// Writes a profile's country, class and hertz from place `at`, and returns the place after them.
+fn append_key(p: Profile, out: &mut [u8], at: usize) -> usize
+    requires { ⌜ Room (now out) at (keyBytes p) ⌝ }
+    ensures { λ r. ⌜ Appended (now (out .entry)) at (keyBytes p) (now (out .exit)) r ⌝ }
 {
-    let key = [p.country.first, p.country.second, b',', p.class, b','];
-    let serial = at + 5;
-    copy(&mut out[at..serial], &key);
+    let letters = [p.country.first, p.country.second, b',', p.class, b','];
+    let hertz = at + 5;
+    copy(&mut out[at..hertz], &letters);
+    let end = write_decimal(p.hertz, out, hertz);
+    out[end] = b',';
+    end + 1
+}
+
+// Its row: these, then the serial.
+fn append_row(p: Profile, out: &mut [u8], at: usize) -> usize
+    requires { ⌜ Room (now out) at (row p) ⌝ }
+    ensures { λ r. ⌜ Appended (now (out .entry)) at (row p) (now (out .exit)) r ⌝ }
+{
+    let serial = append_key(p, out, at);
     let end = write_decimal(p.serial, out, serial);
     out[end] = b'\n';
     end + 1
@@ -127,9 +138,8 @@ fn append_row(p: Profile, out: &mut [u8], at: usize) -> usize
 // The row of a slot that is used.
 fn append_slot(slot: &[u8], out: &mut [u8], at: usize) -> usize
     requires { ⌜ length (now slot) ≡ profileSize ⌝ }
-    requires { ⌜ at + longestRow ≤ length (now out) ⌝ }
+    requires { ⌜ Room (now out) at (rows (usedIn (now slot))) ⌝ }
     ensures { λ r. ⌜ Appended (now (out .entry)) at (rows (usedIn (now (slot .entry)))) (now (out .exit)) r ⌝ }
-    ensures within { λ r. ⌜ r ≤ at + longestRow ⌝ }
 {
     if !is_used(slot) {
         return at;
@@ -140,9 +150,8 @@ fn append_slot(slot: &[u8], out: &mut [u8], at: usize) -> usize
 // The rows of all slots, in the order of the slots.
 fn append_rows(store: &[u8], out: &mut [u8], at: usize) -> usize
     requires { ⌜ length (now store) ≡ storeSize ⌝ }
-    requires { ⌜ at + capacity * longestRow ≤ length (now out) ⌝ }
+    requires { ⌜ Room (now out) at (rows (stored (now store))) ⌝ }
     ensures { λ r. ⌜ Appended (now (out .entry)) at (rows (stored (now (store .entry)))) (now (out .exit)) r ⌝ }
-    ensures within { λ r. ⌜ r ≤ at + capacity * longestRow ⌝ }
 {
     let mut next = at;
     let mut i: usize = 0;
@@ -167,7 +176,7 @@ pub fn preview(input: &[u8], out: &mut [u8]) -> Previewed
     }
     let mut store = [0u8; STORE_SIZE];
     hold_lines(&mut store, input);
-    let at = append_text(b"COUNTRY,CLASS,SERIAL\n", out);
+    let at = append_text(b"COUNTRY,CLASS,HERTZ,SERIAL\n", out);
     Previewed::Length(append_rows(&store, out, at))
 }
 

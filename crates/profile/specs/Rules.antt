@@ -121,7 +121,7 @@ abbrev pub rateRules : LineKind → List Rule
 rateRules GP1 = []
 rateRules GP2 = tripRules rate (100 to 10000)
 
--- nominal hertz
+-- nominal hertz: of a line's field, and of a device's setting
 abbrev pub nominalHertz : List Range
 nominalHertz = 50 to 50 ∷ 60 to 60 ∷ []
 

@@ -5,12 +5,12 @@ use mathlib.Core.List.{List, [], _∷_}
 use Prim.Native.Nat.{ℕ, _<_}
 use native.Mathlib.Omega.{arith}
 use lib.Dec.{T, eqb, ltb, ltb→lt}
-use borrow.Author.Tests.{eqb-true, eq-eqb, ne-eqb}
+use borrow.Author.Tests.{eqb-true, eq-eqb}
 use Rattle.outcome.specs.Answer.{pick}
 use Rattle.outcome.specs.Result.{done}
 use Rattle.profile.specs.declared.Profile.{Profile}
-use Rattle.profile.specs.Rules.{Class, contains, letters, classIn, isClass, valid}
-use Rattle.profile.proofs.RuleLaws.{parts}
+use Rattle.profile.specs.Rules.{Class, contains, inOneOf, letters, nominalHertz, classIn, isClass, valid}
+use Rattle.profile.proofs.RuleLaws.{parts, valid-hertz}
 use Rattle.store.specs.declared.Key.{Key}
 use Rattle.store.specs.declared.Device.{Device}
 use Rattle.store.specs.Keys.{keyOf, deviceKey, sameKey, hasClass, deviceOk}
@@ -51,13 +51,16 @@ same-eq a b e =
     let second = both-true (eqb (a .country .second) (b .country .second)) _ (first .1) in
     let p0 = eqb-true (a .country .first) (b .country .first) (first .0) in
     let p1 = eqb-true (a .country .second) (b .country .second) (second .0) in
-    let p2 = eqb-true (a .class) (b .class) (second .1) in
-    λ i. record { country = record { first = p0 i; second = p1 i }; class = p2 i }
+    let third = both-true (eqb (a .class) (b .class)) _ (second .1) in
+    let p2 = eqb-true (a .class) (b .class) (third .0) in
+    let p3 = eqb-true (a .hertz) (b .hertz) (third .1) in
+    λ i. record { country = record { first = p0 i; second = p1 i }; class = p2 i; hertz = p3 i }
 
 pub same-refl : (a : Key) → sameKey a a ≡ true
 unfolding sameKey
 same-refl a =
-    rw (eq-eqb (a .country .first) _ refl, eq-eqb (a .country .second) _ refl, eq-eqb (a .class) _ refl)
+    rw (eq-eqb (a .country .first) _ refl, eq-eqb (a .country .second) _ refl)
+    (rw (eq-eqb (a .class) _ refl, eq-eqb (a .hertz) _ refl))
 
 pub same-sym : (a b : Key) → sameKey a b ≡ true → sameKey b a ≡ true
 same-sym a b e = rw (same-eq a b e) (same-refl b)
@@ -76,17 +79,15 @@ pub same-apart : (a b k : Key) → sameKey a b ≡ false → sameKey a k ≡ tru
 same-apart a b k differ ak bk =
     not-both (sameKey a b) (rw (same-eq a k ak ∙ sym (same-eq b k bk)) (same-refl b)) differ
 
-pub class-apart : (a b : Key) → (a .class ≡ b .class → ⊥) → sameKey a b ≡ false
-unfolding sameKey
-class-apart a b differ =
-    go (eqb (a .country .first) (b .country .first)) (eqb (a .country .second) (b .country .second))
-    (eqb (a .class) (b .class))
-    (ne-eqb (a .class) (b .class) differ)
+pub key-apart : (a b : Key) → (a ≡ b → ⊥) → sameKey a b ≡ false
+key-apart a b differ = go (sameKey a b) refl
   where
-    go : (x y z : Bool) → z ≡ false → (x && (y && z)) ≡ false
-    go true true z e = e
-    go true false z e = refl
-    go false y z e = refl
+    go : (s : Bool) → sameKey a b ≡ s → s ≡ false
+    go true e = absurd (differ (same-eq a b e))
+    go false e = refl
+
+pub class-apart : (a b : Key) → (a .class ≡ b .class → ⊥) → sameKey a b ≡ false
+class-apart a b differ = key-apart a b (λ e. differ (ap (λ (k : Key). k .class) e))
 
 -- ---- devices
 
@@ -101,11 +102,19 @@ module _ (table : List Class) (d : Device) where
   device-second e f =
       and-holds (contains letters (d .country .first)) _ e ∙ and-fails (contains letters (d .country .second)) _ f
 
-  pub device-class : contains letters (d .country .first) ≡ true → contains letters (d .country .second) ≡ true
-      → deviceOk table d ≡ hasClass table (d .class)
-  unfolding deviceOk
-  device-class e f =
-      and-holds (contains letters (d .country .first)) _ e ∙ and-holds (contains letters (d .country .second)) _ f
+  module _ (first : contains letters (d .country .first) ≡ true)
+      (second : contains letters (d .country .second) ≡ true) where
+    pub device-letters : deviceOk table d ≡ (hasClass table (d .class) && inOneOf nominalHertz (d .hertz))
+    unfolding deviceOk
+    device-letters =
+        and-holds (contains letters (d .country .first)) _ first
+        ∙ and-holds (contains letters (d .country .second)) _ second
+
+    pub device-class : hasClass table (d .class) ≡ false → deviceOk table d ≡ false
+    device-class e = device-letters ∙ and-fails (hasClass table (d .class)) _ e
+
+    pub device-hertz : hasClass table (d .class) ≡ true → deviceOk table d ≡ inOneOf nominalHertz (d .hertz)
+    device-hertz e = device-letters ∙ and-holds (hasClass table (d .class)) _ e
 
 -- the class letters of a table of bytes are bytes
 abbrev pub Bytes : List Class → Type 0
@@ -125,7 +134,7 @@ unfolding deviceOk
 device-class-byte table bytes d e =
     let first = both-true (contains letters (d .country .first)) _ e in
     let second = both-true (contains letters (d .country .second)) _ (first .1) in
-    class-byte table bytes (d .class) (second .1)
+    class-byte table bytes (d .class) (both-true (hasClass table (d .class)) _ (second .1) .0)
 
 -- ---- the device of a valid profile
 
@@ -151,7 +160,9 @@ device-of-valid table profile device ok its =
     let rules = parts table profile ok in
     let country : device .country ≡ profile .country = ap (λ (k : Key). k .country) its in
     let class : device .class ≡ profile .class = ap (λ (k : Key). k .class) its in
+    let hertz : device .hertz ≡ profile .hertz = ap (λ (k : Key). k .hertz) its in
     let first : contains letters (device .country .first) ≡ true = rw country (rules .first) in
     let second : contains letters (device .country .second) ≡ true = rw country (rules .second) in
-    device-class table device first second
-    ∙ rw class (class-known table (profile .volts) (profile .class) (rules .agrees))
+    let known : hasClass table (device .class) ≡ true =
+    rw class (class-known table (profile .volts) (profile .class) (rules .agrees)) in
+    device-hertz table device first second known ∙ rw hertz (valid-hertz table profile ok)

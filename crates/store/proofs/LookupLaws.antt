@@ -112,45 +112,48 @@ module _ (table : List Class) (image : List ℕ) (d : Device) (i : ℕ) (ok : de
 
 -- ---- the answer, by the first check that fails
 
-module _ (table : List Class) (image country old : List ℕ) (class before : ℕ) where
-  pub lookup-country : (length country ≡ 2 → ⊥) → LooksUp table image country class old before 10 old before
+module _ (table : List Class) (image country old : List ℕ) (class hertz before : ℕ) where
+  pub lookup-country : (length country ≡ 2 → ⊥) → LooksUp table image country class hertz old before 10 old before
   lookup-country other =
       record { answers = one-refused 9 (rw (ne-eqb (length country) 2 other)) refl; size = refl }
 
   module _ (two : length country ≡ 2) where
-    pub lookup-device : deviceOk table (deviceOf country class) ≡ false
-        → LooksUp table image country class old before 10 old before
+    pub lookup-device : deviceOk table (deviceOf country class hertz) ≡ false
+        → LooksUp table image country class hertz old before 10 old before
     lookup-device bad =
         record { answers = one-refused 9 (rw (eq-eqb (length country) 2 two, bad)) refl; size = refl }
 
-    module _ (set : deviceOk table (deviceOf country class) ≡ true) where
-      pub lookup-store-size : (length image ≡ storeSize → ⊥) → LooksUp table image country class old before 1 old before
+    module _ (set : deviceOk table (deviceOf country class hertz) ≡ true) where
+      pub lookup-store-size : (length image ≡ storeSize → ⊥)
+          → LooksUp table image country class hertz old before 1 old before
       lookup-store-size other =
-          let first : firstRefusal (lookupLineChecks table image country class old) ≡ 1 =
+          let first : firstRefusal (lookupLineChecks table image country class hertz old) ≡ 1 =
           rw (eq-eqb (length country) 2 two, set, ne-eqb (length image) storeSize other) in
           record { answers = one-refused 0 first refl; size = refl }
 
       module _ (size : length image ≡ storeSize) where
-        pub lookup-line-size : (length old ≡ longest → ⊥) → LooksUp table image country class old before 1 old before
+        pub lookup-line-size : (length old ≡ longest → ⊥)
+            → LooksUp table image country class hertz old before 1 old before
         lookup-line-size other =
-            let first : firstRefusal (lookupLineChecks table image country class old) ≡ 1 =
+            let first : firstRefusal (lookupLineChecks table image country class hertz old) ≡ 1 =
             rw (eq-eqb (length country) 2 two, set, eq-eqb (length image) storeSize size)
             (rw (ne-eqb (length old) longest other)) in
             record { answers = one-refused 0 first refl; size = refl }
 
         module _ (room : length old ≡ longest) where
-          pub lookup-none : refused not-stored ≡ foundIn table image country class
-              → LooksUp table image country class old before 9 old before
+          pub lookup-none : refused not-stored ≡ foundIn table image country class hertz
+              → LooksUp table image country class hertz old before 9 old before
           lookup-none none =
-              let first : firstRefusal (lookupLineChecks table image country class old) ≡ 9 =
+              let first : firstRefusal (lookupLineChecks table image country class hertz old) ≡ 9 =
               rw (eq-eqb (length country) 2 two, set, eq-eqb (length image) storeSize size)
               (rw (eq-eqb (length old) longest room, ← none)) in
               record { answers = one-refused 8 first refl; size = refl }
 
-          pub lookup-line : (p : Profile) {k after : ℕ} {new : List ℕ} → done p ≡ foundIn table image country class
-              → WritesProfileLine table p old before k new after → LooksUp table image country class old before k new after
+          pub lookup-line : (p : Profile) {k after : ℕ} {new : List ℕ}
+              → done p ≡ foundIn table image country class hertz → WritesProfileLine table p old before k new after
+              → LooksUp table image country class hertz old before k new after
           lookup-line p {k} {after} {new} found puts =
-              let checks : List Check = lookupLineChecks table image country class old in
+              let checks : List Check = lookupLineChecks table image country class hertz old in
               let same : firstRefusal (writeChecks table p old) ≡ firstRefusal checks =
               rw (eq-eqb (length country) 2 two, set, eq-eqb (length image) storeSize size, ← found) in
               subst (λ (l : List ℕ). AnswersFront checks l old before k new after) (ap foundLine found)

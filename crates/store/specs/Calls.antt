@@ -61,9 +61,9 @@ after (r unless ok ∷ checks) a = pick ok (after checks a) (refused r)
 unfoldable pub lookupIn : List Class → Device → List Profile → Result Profile
 lookupIn table d ps = after (lookupChecks table d ps) (find (deviceKey d) ps)
 
--- what a device that is set to this country and class finds in an image
-abbrev pub foundIn : List Class → List ℕ → List ℕ → ℕ → Result Profile
-foundIn table image country class = lookupIn table (deviceOf country class) (stored image)
+-- what a device that is set to this country, class and hertz finds in an image
+abbrev pub foundIn : List Class → List ℕ → List ℕ → ℕ → ℕ → Result Profile
+foundIn table image country class hertz = lookupIn table (deviceOf country class hertz) (stored image)
 
 abbrev pub validIn : List Class → Result Profile → Bool
 validIn table (done p) = valid table p
@@ -74,20 +74,21 @@ foundLine (done p) = lineOf p
 foundLine (refused r) = []
 
 -- only an image that no run of the library made holds a profile that breaks a rule (crate package, `NoneBroken`)
-abbrev pub lookupLineChecks : List Class → List ℕ → List ℕ → ℕ → List ℕ → List Check
-lookupLineChecks table image country class old =
+abbrev pub lookupLineChecks : List Class → List ℕ → List ℕ → ℕ → ℕ → List ℕ → List Check
+lookupLineChecks table image country class hertz old =
     bad-device unless eqb (length country) 2
-    ∷ bad-device unless deviceOk table (deviceOf country class)
+    ∷ bad-device unless deviceOk table (deviceOf country class hertz)
     ∷ bad-size unless eqb (length image) storeSize
     ∷ bad-size unless eqb (length old) longest
-    ∷ not-stored unless isDone (foundIn table image country class)
-    ∷ bad-profile unless validIn table (foundIn table image country class)
+    ∷ not-stored unless isDone (foundIn table image country class hertz)
+    ∷ bad-profile unless validIn table (foundIn table image country class hertz)
     ∷ []
 
 -- the line of what is found
-abbrev pub LooksUp : List Class → List ℕ → List ℕ → ℕ → List ℕ → ℕ → ℕ → List ℕ → ℕ → Type 0
-LooksUp table image country class old =
-    AnswersFront (lookupLineChecks table image country class old) (foundLine (foundIn table image country class)) old
+abbrev pub LooksUp : List Class → List ℕ → List ℕ → ℕ → ℕ → List ℕ → ℕ → ℕ → List ℕ → ℕ → Type 0
+LooksUp table image country class hertz old =
+    AnswersFront (lookupLineChecks table image country class hertz old)
+    (foundLine (foundIn table image country class hertz)) old
 
 -- ---- storing
 

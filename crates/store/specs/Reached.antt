@@ -99,7 +99,8 @@ AllValid table (p ∷ ps) = T (valid table p) × AllValid table ps
 
 -- What holds of every store that is reached: everything stored is valid; no key twice; at most 16 profiles; it is the
 -- map that the accepted calls make, and up to order its list; and what a lookup gives, under whatever classes, is a
--- profile of the device's country and class, which entered by a call that was answered 0 with the device set to these.
+-- profile of the device's country, class and hertz, which entered by a call that was answered 0 with the device set to
+-- these.
 pub record Holds (table : List Class) (calls : List Call) (ps : List Profile) : Type 0 where
   pub all-valid : AllValid table ps
   pub distinct : Distinct ps

@@ -1,5 +1,5 @@
-// The accepted profiles (document 01's shelf): sixteen slots, and one profile for each country and class. A store is
-// its image, and every image is a store, also one that no run of calls makes.
+// The accepted profiles (document 01's shelf): sixteen slots, and one profile for each country, class and hertz. A
+// store is its image, and every image is a store, also one that no run of calls makes.
 pub mod slots;
 
 use image::PROFILE_SIZE;
@@ -16,6 +16,7 @@ use profile::Country;
 use profile::LONGEST;
 use profile::Profile;
 use profile::rules::is_letter;
+use profile::rules::is_nominal_hertz;
 use slots::find_free;
 use slots::find_key;
 use slots::profile_at;
@@ -39,12 +40,14 @@ pub const STORE_SIZE: usize = CAPACITY * PROFILE_SIZE;
 pub struct Key {
     pub country: Country,
     pub class: u8,
+    pub hertz: u32,
 }
 
-// The country and class that a device is set to. It may hold anything.
+// The country, class and hertz that a device is set to. It may hold anything.
 pub struct Device {
     pub country: Country,
     pub class: u32,
+    pub hertz: u32,
 }
 
 fn key_of(profile: Profile) -> Key
@@ -54,6 +57,7 @@ fn key_of(profile: Profile) -> Key
     Key {
         country: country,
         class: profile.class,
+        hertz: profile.hertz,
     }
 }
 
@@ -67,6 +71,9 @@ fn same_key(a: Key, b: Key) -> bool
         return false;
     }
     if a.class != b.class {
+        return false;
+    }
+    if a.hertz != b.hertz {
         return false;
     }
     true
@@ -91,7 +98,7 @@ fn is_class(class: u32) -> bool
     false
 }
 
-// The device is set to two letters A to Z and to a class.
+// The device is set to two letters A to Z, to a class, and to 50 or 60 hertz.
 pub fn device_ok(device: Device) -> bool
     ensures { λ r. ⌜ r ≡ deviceOk classes device ⌝ }
 {
@@ -101,7 +108,10 @@ pub fn device_ok(device: Device) -> bool
     if !is_letter(device.country.second) {
         return false;
     }
-    is_class(device.class)
+    if !is_class(device.class) {
+        return false;
+    }
+    is_nominal_hertz(device.hertz)
 }
 
 // What a device's profile is stored under.
@@ -114,6 +124,7 @@ pub fn device_key(device: Device) -> Key
     Key {
         country: country,
         class: class as u8,
+        hertz: device.hertz,
     }
 }
 
@@ -135,10 +146,10 @@ pub fn is_used(slot: &[u8]) -> bool
     slot[0] != 0
 }
 
-// The setting that two bytes and a number make.
-pub fn device_of(country: &[u8], class: u32) -> Device
+// The setting that two bytes and two numbers make.
+pub fn device_of(country: &[u8], class: u32, hertz: u32) -> Device
     requires { ⌜ length (now country) ≡ 2 ⌝ }
-    ensures { λ r. ⌜ r ≡ deviceOf (now (country .entry)) class ⌝ }
+    ensures { λ r. ⌜ r ≡ deviceOf (now (country .entry)) class hertz ⌝ }
 {
     let letters = Country {
         first: country[0],
@@ -147,19 +158,27 @@ pub fn device_of(country: &[u8], class: u32) -> Device
     Device {
         country: letters,
         class: class,
+        hertz: hertz,
     }
 }
 
-// Writes the line that a store has for a country and class.
-pub fn lookup(store: &[u8], country: &[u8], class: u32, out: &mut [u8], length: &mut usize) -> u8
+// Writes the line that a store has for a country, class and hertz.
+pub fn lookup(
+    store: &[u8],
+    country: &[u8],
+    class: u32,
+    hertz: u32,
+    out: &mut [u8],
+    length: &mut usize,
+) -> u8
     ensures { λ r.
-        ⌜ LooksUp classes (now (store .entry)) (now (country .entry)) class (now (out .entry)) (now (length .entry)) r
-        (now (out .exit)) (now (length .exit)) ⌝ }
+        ⌜ LooksUp classes (now (store .entry)) (now (country .entry)) class hertz (now (out .entry))
+        (now (length .entry)) r (now (out .exit)) (now (length .exit)) ⌝ }
 {
     if country.len() != 2 {
         return BAD_DEVICE;
     }
-    let device = device_of(country, class);
+    let device = device_of(country, class, hertz);
     if !device_ok(device) {
         return BAD_DEVICE;
     }
@@ -176,7 +195,7 @@ pub fn lookup(store: &[u8], country: &[u8], class: u32, out: &mut [u8], length: 
     write_profile_line(profile_at(store, i), out, length)
 }
 
-// Stores a profile of the device's own country and class, in place of an older one of these or in a free slot.
+// Stores a profile of the device's own country, class and hertz, in place of an older one of these or in a free slot.
 // Callers ask for the profile's rules and `device_ok` first; here it is enough that an image can mean the profile.
 pub fn put(store: &mut [u8], profile: Profile, device: Device) -> u8
     ensures { λ r. ⌜ Puts device profile (now (store .entry)) r (now (store .exit)) ⌝ }

@@ -4,6 +4,7 @@ use super::Key;
 use super::is_used;
 use image::PROFILE_SIZE;
 use image::read::read_profile;
+use image::read::word_at;
 use image::write::write_profile;
 use profile::Profile;
 ghost use mathlib.Core.Path.{_≡_};
@@ -29,6 +30,9 @@ fn slot_holds(slot: &[u8], key: Key) -> bool
         return false;
     }
     if slot[3] != key.class {
+        return false;
+    }
+    if word_at(slot, 12) != key.hertz {
         return false;
     }
     true

@@ -1,15 +1,23 @@
 -- `preview::preview` meets its contract: a refusal, `too long`, or the header and then the rows. Assumes nothing.
 use mathlib.Core.Path.{subst}
 use mathlib.Core.List.{List}
+use Prim.Native.Nat.{_*_, _≤_}
 use native.Mathlib.Omega.{arith}
-use Rattle.decimal.proofs.Stores.{then}
+use lib.ListN.{length}
+use Rattle.decimal.proofs.Stores.{then, appended-length}
 use Rattle.profile.specs.declared.Profile.{Profile}
 use Rattle.profile.specs.Rules.{classes}
-use Rattle.store.specs.Stored.{stored}
-use Rattle.store.specs.Reached.{Run}
+use Rattle.store.specs.Stored.{capacity, stored}
+use Rattle.store.specs.Reached.{Call, Run, Reached}
 use Rattle.store.proofs.Reached.{zeros-empty}
-use Rattle.preview.specs.Preview.{cut, callsIn}
-use Rattle.preview.proofs.EntryLaws.{shows-too-long, shows-listed, previews-refused, previews-done}
+use Rattle.preview.specs.Preview.{cut, callsIn, rows, longestRow}
+use Rattle.preview.proofs.EntryLaws.{
+  reached-room,
+  shows-too-long,
+  shows-listed,
+  previews-refused,
+  previews-done,
+}
 use borrow.Author.Needs.{needs}
 use Rattle.preview.proofs.preview.Statement.{statement}
 use Rattle.preview.proofs.preview.Tie as tie
@@ -53,8 +61,26 @@ append-text-requires-2 c κs = search needs
 slice-aggregate-append-rows : tie.Need-slice-aggregate-append-rows
 slice-aggregate-append-rows c = search needs
 
+-- the calls of the lines of the input, and what they reach
+abbrev calls : tie.After-hold-lines → List Call
+calls held = callsIn classes (cut (held .before .before .before .before .before .before .args .input .now))
+
+abbrev held-in : tie.After-hold-lines → List Profile
+held-in held = stored (held .hold-lines .last .0)
+
+reached : (held : tie.After-hold-lines) → Reached classes (calls held) (held-in held)
+reached held =
+    subst (λ (l : List Profile). Run classes l (calls held) (held-in held)) zeros-empty (held .hold-lines .ensures)
+
+room : (held : tie.After-hold-lines) → length (rows (held-in held)) ≤ longestRow * capacity
+room held = reached-room classes (calls held) (held-in held) (reached held)
+
 append-rows-requires : tie.Need-append-rows-requires
-append-rows-requires c κs = search needs
+append-rows-requires c κs =
+    let headed = c .before .before .before .before in
+    let held = headed .before .before .before .before in
+    let header = headed .append-text2 .ensures in
+    (search needs, record { room = omega (arith, room held, header .place, appended-length header) })
 
 same-length-2 : tie.Need-same-length-2
 same-length-2 c = search needs
@@ -68,13 +94,10 @@ returns-3 c =
     let sized = short-draw .before in
     let args = sized .before .before .before .args in
     let input = args .input .now in
-    let held-in = stored (held .hold-lines .last .0) in
-    let reached = subst (λ (l : List Profile). Run classes l (callsIn classes (cut input)) held-in) zeros-empty
-    (held .hold-lines .ensures) in
-    let shows = shows-listed classes input (short-draw .if2 .left) held-in reached in
-    previews-done classes input (args .out .now) (sized .if1 .left) shows
-    (then (headed .append-text2 .ensures) (listed .append-rows .ensures .0))
-    (omega (arith, listed .append-rows .ensures .1, headed .append-text2 .ensures .place))
+    let shows = shows-listed classes input (short-draw .if2 .left) (held-in held) (reached held) in
+    let listing = listed .append-rows .ensures in
+    previews-done classes input (args .out .now) (sized .if1 .left) shows (then (headed .append-text2 .ensures) listing)
+    (omega (arith, listing .place, room held, headed .append-text2 .ensures .place))
 
 pub preview-spec : {M : Type 1} → statement M
 preview-spec =

@@ -2,7 +2,7 @@
 use mathlib.Core.Path.{_∙_, sym}
 use borrow.Author.Tests.{not-true, not-false}
 use Rattle.profile.specs.Rules.{classes}
-use Rattle.store.proofs.KeyLaws.{device-first, device-second, device-class}
+use Rattle.store.proofs.KeyLaws.{device-first, device-second, device-class, device-hertz}
 use borrow.Author.Needs.{needs}
 use Rattle.store.proofs.device_ok.Statement.{statement}
 use Rattle.store.proofs.device_ok.Tie as tie
@@ -30,11 +30,26 @@ is-class-requires c κs = search needs
 
 returns-3 : tie.Need-returns-3
 returns-3 c =
-    let first = c .before .before .before .before in
-    c .is-class .ensures
-    ∙ sym (device-class classes (first .before .args .device)
-    (sym (first .is-letter .ensures) ∙ not-false _ (c .before .before .before .if1 .left))
-    (sym (c .before .before .is-letter2 .ensures) ∙ not-false _ (c .before .if2 .left)))
+    let second = c .before .before in
+    let first = second .before .before .before in
+    sym (device-class classes (first .before .args .device)
+    (sym (first .is-letter .ensures) ∙ not-false _ (second .before .before .if1 .left))
+    (sym (second .before .is-letter2 .ensures) ∙ not-false _ (second .if2 .left))
+    (sym (c .before .is-class .ensures) ∙ not-true _ (c .if3 .taken)))
+
+is-nominal-hertz-requires : tie.Need-is-nominal-hertz-requires
+is-nominal-hertz-requires c κs = search needs
+
+returns-4 : tie.Need-returns-4
+returns-4 c =
+    let third = c .before in
+    let second = third .before .before in
+    let first = second .before .before .before in
+    c .is-nominal-hertz .ensures
+    ∙ sym (device-hertz classes (first .before .args .device)
+    (sym (first .is-letter .ensures) ∙ not-false _ (second .before .before .if1 .left))
+    (sym (second .before .is-letter2 .ensures) ∙ not-false _ (second .if2 .left))
+    (sym (third .before .is-class .ensures) ∙ not-false _ (third .if3 .left)))
 
 pub device-ok-spec : {M : Type 1} → statement M
 device-ok-spec =
@@ -45,4 +60,6 @@ device-ok-spec =
     is-letter-requires-2
     returns-2
     is-class-requires
-    returns-3)
+    returns-3
+    is-nominal-hertz-requires
+    returns-4)

@@ -1,7 +1,7 @@
 -- `store::is_for` meets its contract. Assumes nothing.
-use mathlib.Core.Path.{sym}
+use mathlib.Core.Path.{_∙_, sym}
 use native.Mathlib.Omega.{arith}
-use Rattle.store.specs.Keys.{keyOf, deviceKey}
+use Rattle.store.specs.Keys.{keyOf, deviceKey, sameKey}
 use Rattle.store.proofs.KeyLaws.{class-apart}
 use borrow.Author.Needs.{needs}
 use Rattle.store.proofs.is_for.Statement.{statement}
@@ -22,7 +22,10 @@ same-key-requires : tie.Need-same-key-requires
 same-key-requires c κs = search needs
 
 returns-2 : tie.Need-returns-2
-returns-2 c = cc
+returns-2 c =
+    let device = c .before in
+    let profile = device .before in
+    c .same-key .ensures ∙ (λ i. sameKey (profile .key-of .ensures i) (device .device-key .ensures i))
 
 pub is-for-spec : {M : Type 1} → statement M
 is-for-spec =

@@ -28,15 +28,15 @@ use Rattle.store.proofs.lookup.Tie as tie
 abbrev entry : tie.After-device-ok → tie.Start
 entry c = c .before .before .before .before .before .before
 
--- whether the device is set to a country and class
+-- whether the device is set to a country, class and hertz
 answered : (c : tie.After-device-ok)
     → let a = entry c .args in
-    c .device-ok .result ≡ deviceOk classes (deviceOf (a .country .now) (a .class))
+    c .device-ok .result ≡ deviceOk classes (deviceOf (a .country .now) (a .class) (a .hertz))
 answered c = c .device-ok .ensures ∙ ap (deviceOk classes) (c .before .device-of .ensures)
 
 device-set : (c : tie.Else2)
     → let a = entry (c .before) .args in
-    deviceOk classes (deviceOf (a .country .now) (a .class)) ≡ true
+    deviceOk classes (deviceOf (a .country .now) (a .class) (a .hertz)) ≡ true
 device-set c = sym (answered (c .before)) ∙ not-false _ (c .if2 .left)
 
 -- where the device is known to be set, from the search
@@ -47,7 +47,8 @@ set-at found = found .before .before .before .before
 first : (found : tie.After-find-key)
     → let a = entry (set-at found .before) .args in
     found .find-key .result
-    ≡ firstSlot (holding (deviceKey (deviceOf (a .country .now) (a .class)))) (slotsOf capacity (a .store .now))
+    ≡ firstSlot (holding (deviceKey (deviceOf (a .country .now) (a .class) (a .hertz))))
+    (slotsOf capacity (a .store .now))
 first found =
     let asked = set-at found .before in
     let slots = slotsOf capacity (entry asked .args .store .now) in
@@ -57,7 +58,8 @@ first found =
 returns : tie.Need-returns
 returns c =
     let a = c .before .before .before .before .args in
-    lookup-country classes (a .store .now) (a .country .now) (a .out .now) (a .class) (a .length .now) (c .if1 .taken)
+    lookup-country classes (a .store .now) (a .country .now) (a .out .now) (a .class) (a .hertz) (a .length .now)
+    (c .if1 .taken)
 
 device-of-requires : tie.Need-device-of-requires
 device-of-requires c κs = search needs
@@ -69,14 +71,14 @@ returns-2 : tie.Need-returns-2
 returns-2 c =
     let asked = c .before in
     let a = entry asked .args in
-    lookup-device classes (a .store .now) (a .country .now) (a .out .now) (a .class) (a .length .now)
+    lookup-device classes (a .store .now) (a .country .now) (a .out .now) (a .class) (a .hertz) (a .length .now)
     (asked .before .before .if1 .left) (sym (answered asked) ∙ not-true _ (c .if2 .taken))
 
 returns-3 : tie.Need-returns-3
 returns-3 c =
     let set = c .before in
     let a = entry (set .before) .args in
-    lookup-store-size classes (a .store .now) (a .country .now) (a .out .now) (a .class) (a .length .now)
+    lookup-store-size classes (a .store .now) (a .country .now) (a .out .now) (a .class) (a .hertz) (a .length .now)
     (set .before .before .before .if1 .left) (device-set set) (c .if3 .taken)
 
 returns-4 : tie.Need-returns-4
@@ -84,7 +86,7 @@ returns-4 c =
     let sized = c .before in
     let set = sized .before in
     let a = entry (set .before) .args in
-    lookup-line-size classes (a .store .now) (a .country .now) (a .out .now) (a .class) (a .length .now)
+    lookup-line-size classes (a .store .now) (a .country .now) (a .out .now) (a .class) (a .hertz) (a .length .now)
     (set .before .before .before .if1 .left) (device-set set) (sized .if3 .left) (c .if4 .taken)
 
 device-key-requires : tie.Need-device-key-requires
@@ -104,9 +106,9 @@ returns-5 c =
     let room = found .before .before in
     let set = set-at found in
     let a = entry (set .before) .args in
-    let d = deviceOf (a .country .now) (a .class) in
+    let d = deviceOf (a .country .now) (a .class) (a .hertz) in
     let none = found-none classes (a .store .now) d _ (device-set set) (first found) (omega arith) in
-    lookup-none classes (a .store .now) (a .country .now) (a .out .now) (a .class) (a .length .now)
+    lookup-none classes (a .store .now) (a .country .now) (a .out .now) (a .class) (a .hertz) (a .length .now)
     (set .before .before .before .if1 .left) (device-set set) (room .before .if3 .left) (room .if4 .left) none
 
 profile-at-requires : tie.Need-profile-at-requires
@@ -127,10 +129,10 @@ returns-6 c =
     let room = found .before .before in
     let set = set-at found in
     let a = entry (set .before) .args in
-    let d = deviceOf (a .country .now) (a .class) in
+    let d = deviceOf (a .country .now) (a .class) (a .hertz) in
     let here = found-here classes (a .store .now) d _ (device-set set) (first found) (omega arith) in
     let it = ap (λ (p : Profile). done p) (read .profile-at .ensures) ∙ here in
-    lookup-line classes (a .store .now) (a .country .now) (a .out .now) (a .class) (a .length .now)
+    lookup-line classes (a .store .now) (a .country .now) (a .out .now) (a .class) (a .hertz) (a .length .now)
     (set .before .before .before .if1 .left) (device-set set) (room .before .if3 .left) (room .if4 .left) _ it
     (wrote .write-profile-line .ensures)
 

@@ -25,15 +25,15 @@ at-set c = c .before
 
 -- ---- what is known past each stage
 
--- whether the device is set to a country and class
+-- whether the device is set to a country, class and hertz
 answered : (c : tie.After-device-ok) →
     let a = entry (at-two c) .args in
-    c .device-ok .result ≡ deviceOk classes (deviceOf (a .country .now) (a .class))
+    c .device-ok .result ≡ deviceOk classes (deviceOf (a .country .now) (a .class) (a .hertz))
 answered c = c .device-ok .ensures ∙ ap (deviceOk classes) (c .before .device-of .ensures)
 
 set : (c : tie.Else2) →
     let a = entry (at-two (c .before)) .args in
-    deviceOk classes (deviceOf (a .country .now) (a .class)) ≡ true
+    deviceOk classes (deviceOf (a .country .now) (a .class) (a .hertz)) ≡ true
 set c = sym (answered (c .before)) ∙ not-false _ (c .if2 .left)
 
 -- ---- needs
@@ -41,7 +41,7 @@ set c = sym (answered (c .before)) ∙ not-false _ (c .if2 .left)
 returns : tie.Need-returns
 returns c =
     let a = c .before .before .before .before .before .before .before .args in
-    load-country (a .p) classes (a .key .now) (a .sealed .now) (a .country .now) (a .class) (a .store .now)
+    load-country (a .p) classes (a .key .now) (a .sealed .now) (a .country .now) (a .class) (a .hertz) (a .store .now)
     (c .if1 .taken)
 
 device-of-requires : tie.Need-device-of-requires
@@ -55,7 +55,7 @@ returns-2 c =
     let asked = c .before in
     let two = at-two asked in
     let a = entry two .args in
-    load-device (a .p) classes (a .key .now) (a .sealed .now) (a .country .now) (a .class) (a .store .now)
+    load-device (a .p) classes (a .key .now) (a .sealed .now) (a .country .now) (a .class) (a .hertz) (a .store .now)
     (two .if1 .left)
     (sym (answered asked) ∙ not-true _ (c .if2 .taken))
 
@@ -64,7 +64,7 @@ returns-3 c =
     let settled = c .before in
     let two = at-two (settled .before) in
     let a = entry two .args in
-    load-size (a .p) classes (a .key .now) (a .sealed .now) (a .country .now) (a .class) (a .store .now)
+    load-size (a .p) classes (a .key .now) (a .sealed .now) (a .country .now) (a .class) (a .hertz) (a .store .now)
     (two .if1 .left)
     (set settled) (c .if3 .taken)
 
@@ -101,7 +101,8 @@ returns-4 c =
     let opens =
     subst (λ (o : Opened). Opens (a .p) classes (a .key .now) (a .sealed .now) o) (found .profile .given .1)
     (asked .«open» .ensures) in
-    load-put (a .p) classes (a .key .now) (a .sealed .now) (a .country .now) (a .class) (a .store .now) (two .if1 .left)
+    load-put (a .p) classes (a .key .now) (a .sealed .now) (a .country .now) (a .class) (a .hertz) (a .store .now)
+    (two .if1 .left)
     (set settled) (whole .if3 .left) _ (settled .before .before .device-of .ensures) opens (stored .put .ensures)
 
 same-length-4 : tie.Need-same-length-4
@@ -118,7 +119,7 @@ returns-5 c =
     let settled = at-set whole in
     let two = at-two (settled .before) in
     let a = entry two .args in
-    load-refused (a .p) classes (a .key .now) (a .sealed .now) (a .country .now) (a .class) (a .store .now)
+    load-refused (a .p) classes (a .key .now) (a .sealed .now) (a .country .now) (a .class) (a .hertz) (a .store .now)
     (two .if1 .left)
     (set settled) (whole .if3 .left)
     (subst (λ (o : Opened). Opens (a .p) classes (a .key .now) (a .sealed .now) o) (found .refusal .given .1)

@@ -46,14 +46,36 @@ returns-4 c =
     let used = sym (first .before .is-used .ensures) ∙ not-false _ (first .if1 .left) in
     simp (used, eq-eqb _ _ (second .if2 .left), eq-eqb _ _ (third .if3 .left), ne-eqb _ _ (c .if4 .taken))
 
+word-at-requires : tie.Need-word-at-requires
+word-at-requires c κs = search needs
+
 returns-5 : tie.Need-returns-5
 unfolding sameKey profileOf
 returns-5 c =
-    let third = c .before .before .before in
+    let read = c .before .before in
+    let fourth = read .before in
+    let third = fourth .before .before .before in
     let second = third .before .before .before in
     let first = second .before .before .before in
     let used = sym (first .before .is-used .ensures) ∙ not-false _ (first .if1 .left) in
-    simp (used, eq-eqb _ _ (second .if2 .left), eq-eqb _ _ (third .if3 .left), eq-eqb _ _ (c .if4 .left))
+    let country = eq-eqb _ _ (second .if2 .left) in
+    let hertz = ne-eqb _ _ (c .if5 .taken) in
+    let word = sym (read .word-at .ensures) in
+    simp (used, country, eq-eqb _ _ (third .if3 .left), eq-eqb _ _ (fourth .if4 .left), word, hertz)
+
+returns-6 : tie.Need-returns-6
+unfolding sameKey profileOf
+returns-6 c =
+    let read = c .before .before in
+    let fourth = read .before in
+    let third = fourth .before .before .before in
+    let second = third .before .before .before in
+    let first = second .before .before .before in
+    let used = sym (first .before .is-used .ensures) ∙ not-false _ (first .if1 .left) in
+    let country = eq-eqb _ _ (second .if2 .left) in
+    let hertz = eq-eqb _ _ (c .if5 .left) in
+    let word = sym (read .word-at .ensures) in
+    simp (used, country, eq-eqb _ _ (third .if3 .left), eq-eqb _ _ (fourth .if4 .left), word, hertz)
 
 pub slot-holds-spec : {M : Type 1} → statement M
 slot-holds-spec =
@@ -67,4 +89,6 @@ slot-holds-spec =
     returns-3
     shared-slice-read-if4
     returns-4
-    returns-5)
+    word-at-requires
+    returns-5
+    returns-6)
