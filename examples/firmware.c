@@ -15,6 +15,7 @@
 /* What this device is set to. */
 static const uint8_t country[2] = {'X', 'A'};
 static const uint32_t class_letter = 'B';
+static const uint32_t hertz = 50;
 
 /* On a device: the flash driver. Here two arrays stand for the banks. */
 static uint8_t cells[BANKS_COUNT][BANKS_RECORD_BYTES];
@@ -64,7 +65,7 @@ static uint8_t verify(size_t length)
 static uint8_t load(size_t length)
 {
     return load_package(store, sizeof store, key, sizeof key, package, length, country,
-                        sizeof country, class_letter);
+                        sizeof country, class_letter, hertz);
 }
 
 /* The limits that this device works by. */
@@ -73,7 +74,7 @@ static void print_own_profile(void)
     uint8_t line[GRIDPROFILE_LINE_MAX_BYTES];
     size_t length = 0;
     uint8_t answer = gridprofile_lookup(store, sizeof store, country, sizeof country, class_letter,
-                                        line, sizeof line, &length);
+                                        hertz, line, sizeof line, &length);
     printf("lookup answers %d\n", answer);
     if (answer == GRIDPROFILE_DONE)
         (void)fwrite(line, 1, length, stdout);

@@ -63,6 +63,8 @@ PRIVATE, MASTER, SALT = FIRST.seeds()
 
 LINE = b"GP1,XA,B,12,230,50,1150,100,800,1500,1500,100,-2500,100\n"
 LINE_C = b"GP1,XA,C,5,400,50,1100,200,850,1500,1500,100,-2500,100\n"
+# Of the half of the country that runs at 60 Hz.
+LINE_60 = b"GP1,XA,B,1,230,60,1150,100,800,1500,1500,100,-2500,100\n"
 # With a rate point.
 RATE_LINE = b"GP2,XA,B,13,230,50,1150,100,800,1500,1500,100,-2500,100,2000,500\n"
 # The shortest and the longest line of each kind.
@@ -74,6 +76,8 @@ LONGEST_RATE = b"GP2,XA,D,4294967295,1000,60,1500,60000,999,60000,5000,60000,-50
 LINE_77 = LONGEST_RATE.replace(b"4294967295", b"123")
 # A frequency that there is not.
 BAD_LINE = LINE.replace(b",50,", b",55,")
+# What a device is set to that takes the first of these lines, as words of a command; and one at 60 Hz.
+DEVICE, DEVICE_60 = ("XA", "B", "50"), ("XA", "B", "60")
 
 # What has so many bytes, in the program's words.
 KINDS = {16: "a master seed of category 1", 24: "a master seed of category 3",
@@ -90,11 +94,18 @@ RIVALS = {size: KINDS[size].removesuffix(", or a profile line") for size in (48,
 made = {}
 
 
-def line_of(country="XA", letter="B", serial=12, rate=None):
+def line_of(country="XA", letter="B", hertz=50, serial=12, rate=None):
     """A line; with a rate point where there is a rate."""
     volts = {"A": 120, "B": 230, "C": 400, "D": 690}[letter]
     tag, point = ("GP1", "") if rate is None else ("GP2", f",{rate},500")
-    return f"{tag},{country},{letter},{serial},{volts},50,1150,100,800,1500,1500,100,-2500,100{point}\n".encode()
+    trips = "1150,100,800,1500,1500,100,-2500,100"
+    return f"{tag},{country},{letter},{serial},{volts},{hertz},{trips}{point}\n".encode()
+
+
+def device_of(line):
+    """The country, class and hertz that a line is for, as words of a command."""
+    _, country, letter, _, _, hertz = line.decode().split(",")[:6]
+    return country, letter, hertz
 
 
 def shake(data, length):
@@ -116,9 +127,12 @@ def fingerprint(key, category=FIRST):
 REFUSALS = {1: ("size", "gridprofile help|--category|new-store"),
             2: ("draw from the seeds is short", "make another key"),
             3: ("out of range", "fetch (both|it) again"), 4: ("signature does not hold", "do not use this package"),
-            5: ("breaks a ", "correct the line|take a copy"), 6: ("another country or class", "which device"),
-            7: ("is not greater than", "greater serial|nothing can"), 8: ("16 profiles are stored", "another store"),
-            9: ("nothing is stored", "load a package"), 10: ("is not two letters", "as in: XA B")}
+            5: ("breaks a ", "correct the line|take a copy"),
+            6: ("for another country, class or hertz", "which device .* hertz alone"),
+            7: ("is not greater than", "greater serial|nothing can"),
+            8: ("16 profiles are stored, none of them for this country, class and hertz", "another store"),
+            9: ("nothing is stored for this country, class and hertz", "load a package .* other hertz"),
+            10: ("is not two letters .* or the hertz not 50 or 60", r"as in: XA B 50\.")}
 
 # The seeds are named so that a seed is a file which only its owner can read; a category's number may stand behind.
 SECRET_NAMES = ("private", "master")
@@ -228,6 +242,5 @@ class Case(unittest.TestCase):
         self.put(name, sealed(bytes(IMAGE)))
         self.key()
         for line in lines:
-            country, letter = line.decode().split(",")[1:3]
-            self.done("load", name, "key", self.package(line), country, letter)
+            self.done("load", name, "key", self.package(line), *device_of(line))
         return name

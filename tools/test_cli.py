@@ -1,6 +1,7 @@
 """The command-line program end to end: every command, and every refusal that can be reached through it. Refusal 2 is
 planted, by test_cli_safe: nobody knows seeds whose draws are short. Prints a line for each test, and then the count."""
 
+import itertools
 import os
 import re
 import shlex
@@ -12,11 +13,11 @@ import unittest
 
 sys.dont_write_bytecode = True
 sys.path.insert(0, os.path.dirname(os.path.abspath(__file__)))
-from cli_case import (ARCHIVE, BAD_LINE, CATEGORIES, DAMAGED_STORE, FIFTH, FILE_TROUBLE, FIRST, GIVEN,  # noqa: E402
-                      IMAGE, KINDS, LEAST_LINE, LINE, LINE_C, LONGEST, LONGEST_RATE, MASTER, MOST_LINE,
-                      NO_RANDOM_BYTES, PREVIEW, PRIVATE, PROFILE, PROGRAM, RATE_LINE, ROOT, SALT, SELF_CHECK_FAILED,
-                      SHORTEST, SHORTEST_RATE, SIGNATURE, STORE, THIRD, WRONG_USAGE, Case, fingerprint, line_of, sealed,
-                      shake)
+from cli_case import (ARCHIVE, BAD_LINE, CATEGORIES, DAMAGED_STORE, DEVICE, DEVICE_60, FIFTH,  # noqa: E402
+                      FILE_TROUBLE, FIRST, GIVEN, IMAGE, KINDS, LEAST_LINE, LINE, LINE_60, LINE_C, LONGEST,
+                      LONGEST_RATE, MASTER, MOST_LINE, NO_RANDOM_BYTES, PREVIEW, PRIVATE, PROFILE, PROGRAM, RATE_LINE,
+                      ROOT, SALT, SELF_CHECK_FAILED, SHORTEST, SHORTEST_RATE, SIGNATURE, STORE, THIRD, WRONG_USAGE,
+                      Case, device_of, fingerprint, line_of, sealed, shake)
 import test_cli_categories  # noqa: E402
 import test_cli_files  # noqa: E402
 import test_cli_lines  # noqa: E402
@@ -53,7 +54,7 @@ class Sign(Case):
     def test_what_it_says(self):
         self.package()
         said = self.done("sign", "private", "line", "out").decode()
-        wanted = "Signed and verified: country XA, class B, serial 12\n" + fingerprint(self.get("key"))
+        wanted = "Signed and verified: country XA, class B, 50 Hz, serial 12\n" + fingerprint(self.get("key"))
         self.assertEqual(said, wanted)
         _, said = self.warned("sign", "private", "line", "-")
         self.assertEqual(said, wanted)
@@ -61,7 +62,8 @@ class Sign(Case):
 
     def test_examples_come_of_the_seeds_told(self):
         for name, made in (("xa-b.line", LINE), ("xa-c.line", LINE_C), ("xa-b.rate.line", RATE_LINE),
-                           ("key", self.get(self.key())), ("xa-b.package", self.get(self.package()))):
+                           ("xa-b.60hz.line", LINE_60), ("key", self.get(self.key())),
+                           ("xa-b.package", self.get(self.package()))):
             with open(os.path.join(ROOT, "examples", name), "rb") as file:
                 self.assertEqual(file.read(), made, name)
 
@@ -173,7 +175,7 @@ def flip(data, at, bit=1):
 class Verify(Case):
     def test_good_package(self):
         said = self.done("verify", self.key(), self.package()).decode()
-        wanted = "The signature holds, and the line is a profile: country XA, class B, serial 12\n"
+        wanted = "The signature holds, and the line is a profile: country XA, class B, 50 Hz, serial 12\n"
         self.assertEqual(said, wanted + fingerprint(self.get("key")))
 
     def test_wrong_sizes_are_1(self):
@@ -215,97 +217,173 @@ class Verify(Case):
         self.assertIn('field 15, rate of change, is "10001"', self.refused(5, "verify", "key", "package"))
 
 
+# Words for HERTZ that are none: other numbers, also those that cut to 32 or to 64 bits would be 50 or 60, and what is
+# not written as numbers are.
+NO_HERTZ = ("0", "1", "5", "49", "51", "55", "59", "61", "500", "4294967295", "4294967296", "4294967346", "4294967356",
+            "18446744073709551666", "99999999999999999999", "", "050", "060", "+50", "-50", "50 ", " 50", "\t50",
+            "50\n", "50.0", "50,60", "5 0", "5O", "50Hz", "0x32", "0x3C", "5e1", "-", "B", "\u0665\u0660")
+
+
 class Load(Case):
     def load(self, line, *device):
+        """The words of a load; on the device that the line is for, where none is named."""
         if "store" not in self.names():
             self.store()
-        return ["load", "store", self.key(), self.package(line), *device]
+        return ["load", "store", self.key(), self.package(line), *(device or device_of(line))]
 
     def test_store_is_image_and_checksum(self):
         said = self.done("new-store", "store")
         self.assertEqual((said, self.get("store")), (b"An empty store.\n", sealed(bytes(IMAGE))))
-        self.done(*self.load(LINE, "XA", "B"))
+        self.done(*self.load(LINE, *DEVICE))
         store = self.get("store")
         self.assertEqual((len(store), store.count(b"\x01XAB\x0c\0\0\0")), (STORE, 1))
         self.assertEqual(store, sealed(store[:IMAGE]))
 
     def test_missing_store_is_an_error(self):
         self.package()
-        said = self.troubled(FILE_TROUBLE, "load", "store", "key", "package", "XA", "B")
+        said = self.troubled(FILE_TROUBLE, "load", "store", "key", "package", *DEVICE)
         self.assertIn("store: there is no such store; `gridprofile new-store` makes an empty one", said)
 
     def test_what_it_says(self):
-        wanted = "Accepted: country XA, class B, serial {}\n{}\n"
-        for serial, before in ((12, "Nothing was stored for this country and class before."),
+        wanted = "Accepted: country XA, class B, 50 Hz, serial {}\n{}\n"
+        for serial, before in ((12, "Nothing was stored for this country, class and hertz before."),
                                (13, "It replaces serial 12."), (4294967294, "It replaces serial 13.")):
-            said = self.done(*self.load(line_of(serial=serial), "XA", "B")).decode()
+            said = self.done(*self.load(line_of(serial=serial), *DEVICE)).decode()
             self.assertEqual(said, wanted.format(serial, before) + fingerprint(self.get("key")))
-        said = self.done(*self.load(LINE_C, "XA", "C")).decode()
-        self.assertTrue(said.startswith("Accepted: country XA, class C, serial 5\nNothing was stored"), said)
+        said = self.done(*self.load(LINE_C, "XA", "C", "50")).decode()
+        self.assertTrue(said.startswith("Accepted: country XA, class C, 50 Hz, serial 5\nNothing was stored"), said)
 
     def test_two_classes_of_a_country_stand_side_by_side(self):
-        self.done(*self.load(LINE, "XA", "B"))
-        self.done(*self.load(LINE_C, "XA", "C"))
-        self.assertEqual(self.done("lookup", "store", "XA", "B"), LINE)
-        self.assertEqual(self.done("lookup", "store", "XA", "C"), LINE_C)
+        self.done(*self.load(LINE, *DEVICE))
+        self.done(*self.load(LINE_C, "XA", "C", "50"))
+        self.assertEqual(self.done("lookup", "store", *DEVICE), LINE)
+        self.assertEqual(self.done("lookup", "store", "XA", "C", "50"), LINE_C)
+
+    def test_both_hertz_of_a_country_stand_side_by_side(self):
+        """The lower serial of the other half is taken, and pushes nothing out."""
+        self.done(*self.load(LINE))
+        said = self.done(*self.load(LINE_60)).decode()
+        self.assertEqual(said, "Accepted: country XA, class B, 60 Hz, serial 1\nNothing was stored for this country, "
+                         "class and hertz before.\n" + fingerprint(self.get("key")))
+        shown = self.done("show", "store").decode()
+        self.assertTrue(shown.startswith("A store with 2 of 16 profiles.\n"), shown)
+        for words in (WORDS, WORDS_60):
+            self.assertIn(words, shown)
+        for line in (LINE, LINE_60):
+            self.assertEqual(self.done("lookup", "store", *device_of(line)), line)
+
+    def test_serials_count_within_country_class_and_hertz(self):
+        """A half is replaced by its own greater serials alone, and the other's bytes stay."""
+        serials = {60: 0, 50: 0}
+        for hertz, serial in ((60, 9), (50, 1), (50, 1), (60, 9), (60, 8), (50, 9), (50, 8), (60, 10), (60, 4294967294),
+                              (50, 10), (50, 11), (60, 12), (50, 4294967293), (50, 12)):
+            words, older = self.load(line_of(hertz=hertz, serial=serial)), serials[hertz]
+            before = self.get("store")
+            if serial <= older:
+                said = self.refused(7, *words)
+                self.assertIn(f"the serial, {serial}, is not greater than the stored one, {older}\n", said)
+                continue
+            said = self.done(*words).decode()
+            nothing = "Nothing was stored for this country, class and hertz before."
+            then = f"It replaces serial {older}." if older else nothing
+            wanted = f"Accepted: country XA, class B, {hertz} Hz, serial {serial}\n{then}\n"
+            self.assertTrue(said.startswith(wanted), said)
+            changed = {at // PROFILE for at in range(IMAGE) if before[at] != self.get("store")[at]}
+            self.assertEqual(len(changed), 1)
+            serials[hertz] = serial
+            for of, last in serials.items():
+                words = "lookup", "store", "XA", "B", str(of)
+                self.assertEqual(self.done(*words), line_of(hertz=of, serial=last)) if last else self.refused(9, *words)
 
     def test_rate_point_comes_and_goes(self):
         """A newer profile replaces the whole of the older one, whichever of them has a rate point."""
         for line, image in ((LINE, bytes(12)), (RATE_LINE, struct.pack("<3I", 1, 2000, 500)),
                             (line_of(serial=14, rate=100), struct.pack("<3I", 1, 100, 500)),
                             (line_of(serial=15), bytes(12))):
-            self.done(*self.load(line, "XA", "B"))
-            self.assertEqual(self.done("lookup", "store", "XA", "B"), line)
+            self.done(*self.load(line, *DEVICE))
+            self.assertEqual(self.done("lookup", "store", *DEVICE), line)
             store = self.get("store")
             self.assertEqual(store[store.index(b"\x01XAB") + 64:][:12], image)
-        self.refused(7, *self.load(RATE_LINE, "XA", "B"))
+        self.refused(7, *self.load(RATE_LINE, *DEVICE))
 
     def test_serials(self):
         for serial, answer in ((12, 0), (12, 7), (13, 0), (12, 7), (13, 7), (4294967294, 0), (1, 7)):
-            words = self.load(line_of(serial=serial), "XA", "B")
+            words = self.load(line_of(serial=serial), *DEVICE)
             self.done(*words) if answer == 0 else self.refused(answer, *words)
-        self.assertEqual(self.done("lookup", "store", "XA", "B"), line_of(serial=4294967294))
+        self.assertEqual(self.done("lookup", "store", *DEVICE), line_of(serial=4294967294))
 
     def test_greatest_serial(self):
-        _, said = self.warned(*self.load(line_of(serial=4294967295), "XA", "B"))
+        _, said = self.warned(*self.load(line_of(serial=4294967295), *DEVICE))
         self.assertIn("this serial is the greatest: nothing can replace the profile", said)
-        said = self.refused(7, *self.load(line_of(serial=4294967295), "XA", "B"))
+        said = self.refused(7, *self.load(line_of(serial=4294967295), *DEVICE))
         self.assertIn("the stored serial is the greatest, which nothing can replace", said)
 
     def test_serials_are_told(self):
-        self.done(*self.load(line_of(serial=1000), "XA", "B"))
-        said = self.refused(7, *self.load(line_of(serial=999), "XA", "B"))
+        self.done(*self.load(line_of(serial=1000), *DEVICE))
+        said = self.refused(7, *self.load(line_of(serial=999), *DEVICE))
         self.assertIn("refused with 7: the serial, 999, is not greater than the stored one, 1000\n", said)
 
-    def test_seventeenth_pair_is_8(self):
-        pairs = [("X" + letter, of) for letter in "ABCD" for of in "ABCD"]
-        for country, letter in pairs:
-            said = self.done(*self.load(line_of(country, letter), country, letter)).decode()
-            self.assertTrue(said.startswith(f"Accepted: country {country}, class {letter}, serial 12\nNothing "), said)
+    def fill(self, triples):
+        """A store with these 16, each of which was new to it."""
+        self.store()
+        for country, letter, hertz in triples:
+            said = self.done(*self.load(line_of(country, letter, hertz))).decode()
+            accepted = f"Accepted: country {country}, class {letter}, {hertz} Hz, serial 12\nNothing "
+            self.assertTrue(said.startswith(accepted), said)
         shown = self.done("show", "store").decode()
         self.assertTrue(shown.startswith("A store with 16 of 16 profiles.\n"), shown)
-        self.assertEqual(sorted(re.findall("^country (..), class (.), serial 12$", shown, re.M)), pairs)
-        self.refused(8, *self.load(line_of("XE"), "XE", "B"))
-        self.done(*self.load(line_of(serial=13), "XA", "B"))
-        self.assertEqual(self.done("lookup", "store", "XD", "D"), line_of("XD", "D"))
+        found = re.findall("^country (..), class (.), (..) Hz, serial 12$", shown, re.M)
+        self.assertEqual(sorted((country, letter, int(hertz)) for country, letter, hertz in found), sorted(triples))
+
+    def test_seventeenth_triple_is_8(self):
+        """Also where it is the other hertz of a country and class that is stored; newer profiles of those stored are
+        taken as before."""
+        countries = "XA", "XB", "XC", "XD"
+        for triples, more in ((list(itertools.product(countries, "ABCD", (50,))), [("XE", "B", 50), ("XA", "B", 60)]),
+                              (list(itertools.product(countries[:2], "ABCD", (50, 60))), [("XE", "B", 60)])):
+            self.fill(triples)
+            for triple in more:
+                self.refused(8, *self.load(line_of(*triple, serial=99)))
+            self.done(*self.load(line_of(serial=13)))
+            self.assertEqual(self.done("lookup", "store", *DEVICE), line_of(serial=13))
+            for triple in triples:
+                if triple != ("XA", "B", 50):
+                    self.assertEqual(self.done("lookup", "store", *map(str, triple)), line_of(*triple))
 
     def test_other_devices_are_6(self):
-        for device in (("XA", "C"), ("XB", "B"), ("AX", "B")):
+        for device in (("XA", "C", "50"), ("XB", "B", "50"), ("AX", "B", "50")):
             self.refused(6, *self.load(LINE, *device))
+
+    def test_other_hertz_alone_are_6(self):
+        """Whatever is stored for the device."""
+        for stored in ((), (LINE,), (LINE_60,), (LINE, LINE_60)):
+            self.store(*stored)
+            self.refused(6, *self.load(line_of(serial=99), *DEVICE_60))
+            self.refused(6, *self.load(line_of(hertz=60, serial=99), *DEVICE))
 
     def test_devices_that_do_not_exist_are_10(self):
         for device in (("xa", "B"), ("X", "B"), ("", "B"), ("XAB", "B"), ("X1", "B"), ("XA", "E"), ("XA", "b"),
                        ("XA", ""), ("XA", "BB"), ("XA", "66"), ("\u00c4", "B"), ("XA", "\u00c4")):
-            self.refused(10, *self.load(LINE, *device))
+            self.refused(10, *self.load(LINE, *device, "50"))
+
+    def test_hertz_that_do_not_exist_are_10(self):
+        """After a word that ends the options, since one of them looks like an option."""
+        for line in (LINE, LINE_60):
+            for hertz in NO_HERTZ:
+                self.refused(10, *self.load(line, "XA", "B", "--", hertz))
+        for hertz, answer in (("50", 0), ("60", 6)):
+            words = self.load(LINE, "XA", "B", "--", hertz)
+            self.done(*words) if answer == 0 else self.refused(answer, *words)
 
     def test_10_comes_before_1(self):
         for name in ("store", "key", "package"):
             self.put(name, b"")
-        said = self.refused(10, "load", "store", "key", "package", "XA", "E")
-        self.assertEqual(len(said.splitlines()), 2, said)
+        for device in (("XA", "E", "50"), ("XA", "B", "55"), ("XA", "B", "")):
+            said = self.refused(10, "load", "store", "key", "package", *device)
+            self.assertEqual(len(said.splitlines()), 2, said)
 
     def test_wrong_sizes_are_1(self):
-        words = self.load(LINE, "XA", "B")
+        words = self.load(LINE, *DEVICE)
         self.done(*words)
         for at, role, least, most in ((1, "STORE", STORE, STORE), (2, "KEY", 77, 77), (3, "PACKAGE", 19194, 19236)):
             for size in (0, least - 1, most + 1, IMAGE - 1, IMAGE + 1, 200_000):
@@ -316,7 +394,7 @@ class Load(Case):
             self.assertIn(f"STORE ({name}) has ", self.refused(1, "load", name, *words[2:]))
 
     def test_damage_is_3_or_4(self):
-        words = self.load(LINE, "XA", "B")
+        words = self.load(LINE, *DEVICE)
         key, package = self.get("key"), self.get("package")
         self.put("key", flip(key, 76, 0x80))
         self.refused(3, *words)
@@ -329,15 +407,24 @@ class Load(Case):
     def test_signed_line_that_breaks_a_rule_is_5(self):
         self.store()
         for category in CATEGORIES:
-            words = "load", "store", self.key(category=category), package_any(self, BAD_LINE, category), "XA", "B"
+            words = "load", "store", self.key(category=category), package_any(self, BAD_LINE, category), *DEVICE
             self.assertIn("field 6, ", self.refused(5, *words, *category.option()))
+            self.refused(10, *words[:-1], "55", *category.option())
 
     def test_every_refusal_of_a_stocked_store_leaves_it(self):
-        self.done(*self.load(LINE, "XA", "B"))
+        self.done(*self.load(LINE, *DEVICE))
         package = self.get("package")
-        for number, data, letter in ((10, package, "Z"), (1, package[:5], "B"), (4, flip(package, SIGNATURE - 1), "B"),
-                                     (6, package, "A"), (7, package, "B")):
-            self.refused(number, "load", "store", "key", self.put("bad", data), "XA", letter)
+        for number, data, *more in ((10, package, "Z", "50"), (10, package, "B", "16"), (1, package[:5], "B", "50"),
+                                    (4, flip(package, SIGNATURE - 1), "B", "50"), (6, package, "A", "50"),
+                                    (6, package, "B", "60"), (7, package, "B", "50")):
+            self.refused(number, "load", "store", "key", self.put("bad", data), "XA", *more)
+
+
+def image_of(country="XA", hertz=50, serial=12, volts=230):
+    """The image of the profile that `line_of` has for class B, written here from docs/FORMATS.md."""
+    trips = (0, 1150, 100), (0, 800, 1500), (1, 1500, 100), (2, 2500, 100), (0, 0, 0)
+    numbers = serial, volts, hertz, *itertools.chain(*trips)
+    return struct.pack("<B2sc18I", 1, country.encode(), b"B", *numbers)
 
 
 class Damage(Case):
@@ -354,13 +441,13 @@ class Damage(Case):
         return ran
 
     def readers(self, name):
-        return (["load", name, "key", self.package(line_of(serial=99)), "XA", "B"], ["lookup", name, "XA", "B"],
+        return (["load", name, "key", self.package(line_of(serial=99)), *DEVICE], ["lookup", name, *DEVICE],
                 ["show", name])
 
     def test_each_byte_of_a_store_counts(self):
         whole = self.get(self.store(LINE))
         for at in range(0, STORE, 7):
-            self.damaged("lookup", self.put("bad", flip(whole, at, 1 << at % 8)), "XA", "B")
+            self.damaged("lookup", self.put("bad", flip(whole, at, 1 << at % 8)), *DEVICE)
 
     def test_damaged_store_is_refused(self):
         whole = self.get(self.store(LINE))
@@ -385,20 +472,21 @@ class Damage(Case):
         self.assertEqual(self.get("bare"), sealed(self.get("bare")[:IMAGE]))
 
     def test_profile_that_breaks_a_rule_is_damage(self):
-        """With and without a checksum; a lookup of a profile that is whole still answers."""
-        image = self.get(self.store(LINE))[:IMAGE]
-        slot = image[:PROFILE] if image[0] else image[-PROFILE:]
-        other = slot.replace(b"XAB", b"XBB").replace(b"\x32\0\0\0", b"\x33\0\0\0")
-        image = slot + other + bytes(IMAGE - 2 * PROFILE)
+        """With and without a checksum; a lookup of a profile that is whole still answers. One of no hertz is found by
+        no lookup."""
+        image = (image_of() + image_of("XB", volts=260) + image_of("XC", hertz=51)).ljust(IMAGE, b"\0")
         for data in (image, sealed(image)):
             self.put("bad", data)
-            said = self.refused(5, "lookup", "bad", "XB", "B")
+            said = self.refused(5, "lookup", "bad", "XB", "B", "50")
             self.assertIn("the stored profile breaks a rule: the store is damaged", said)
             self.assertNotIn("correct the line", said)
-            self.assertEqual(self.run_in("lookup", "bad", "XA", "B").stdout, LINE)
+            self.assertEqual(self.run_in("lookup", "bad", *DEVICE).stdout, LINE)
+            for words in (["lookup", "bad", "XC", "B", "50"], ["lookup", "bad", "XC", "B", "60"]):
+                self.damaged(*words)
             load, _, show = self.readers("bad")
             self.assertIn(b"slot 2 holds what no load leaves there", self.damaged(*load).stderr)
-            self.assertIn(b"slot 2: damaged, breaks a rule\n", self.damaged(*show).stdout)
+            for slot in (b"2", b"3"):
+                self.assertIn(b"slot " + slot + b": damaged, breaks a rule\n", self.damaged(*show).stdout)
 
     def test_every_slot_is_looked_at(self):
         image = self.get(self.store(LINE))[:IMAGE]
@@ -413,8 +501,8 @@ class Damage(Case):
 
     def test_images_that_no_load_made_are_damaged(self):
         """A load would put a checksum over them: a slot that is not used but for its first byte, a used byte of 2, a
-        pair that stands twice, a kind or a presence that is written otherwise, numbers of a rate point that is absent,
-        and rate points that break a rule."""
+        country, class and hertz that stand twice, a kind or a presence that is written otherwise, numbers of a rate
+        point that is absent, and rate points that break a rule."""
         image = self.get(self.store(RATE_LINE, LINE_C))[:IMAGE]
         at, other = image.index(b"\x01XAB"), image.index(b"\x01XAC")
         wrong = [image[:at] + b"\0" + image[at + 1:], image[:at] + b"\x02" + image[at + 1:],
@@ -429,17 +517,69 @@ class Damage(Case):
             for words in (load, show):
                 self.assertIn(b"holds what no load leaves there", self.damaged(*words).stderr)
 
+    def test_country_class_and_hertz_that_stand_twice_are_damage(self):
+        """Whatever else differs, in whichever slots, and with the other hertz between them."""
+        one, other = image_of(), image_of(hertz=60)
+        load, _, show = self.readers("bad")
+        for again in (one, image_of(serial=13), image_of(volts=231), image_of(serial=1, volts=259)):
+            for slots in ((one, again), (one, other, again), (other, one, again), (one, bytes(PROFILE), again),
+                          (one, *(image_of(f"X{letter}") for letter in "BCDEFGHIJKLMNO"), again)):
+                image = b"".join(slots).ljust(IMAGE, b"\0")
+                for data in (image, sealed(image)):
+                    self.put("bad", data)
+                    said = self.damaged(*show).stderr
+                    self.assertIn(f"slot {len(slots)} holds what no load leaves there".encode(), said)
+                self.put("bad", image)
+                self.assertIn(b"holds what no load leaves there", self.damaged(*load).stderr)
+
+    def test_both_hertz_of_a_country_and_class_are_sound(self):
+        """In whichever slots: an image of a device gets its checksum, and a lookup that finds nothing is 9."""
+        one, other = image_of(), image_of(hertz=60, serial=1)
+        for slots in ((one, other), (other, one), (other, bytes(PROFILE), one), (bytes(PROFILE) * 14, one, other)):
+            image = b"".join(slots).ljust(IMAGE, b"\0")
+            self.put("both", sealed(image))
+            self.assertTrue(self.done("show", "both").startswith(b"A store with 2 of 16 profiles.\n"))
+            for line in (LINE, LINE_60):
+                self.assertEqual(self.done("lookup", "both", *device_of(line)), line)
+            self.refused(9, "lookup", "both", "XA", "C", "60")
+            self.put("both", image)
+            self.assertIn("no checksum", self.warned(*self.readers("both")[0])[1])
+            self.assertEqual(self.get("both"), sealed(image.replace(one, image_of(serial=99))))
+
+    def test_full_store_of_both_hertz_is_sound(self):
+        halves = [("X" + letter, hertz) for letter in "ABCDEFGH" for hertz in (60, 50)]
+        self.put("full", sealed(b"".join(image_of(*half) for half in halves)))
+        self.assertTrue(self.done("show", "full").startswith(b"A store with 16 of 16 profiles.\n"))
+        for country, hertz in halves:
+            self.assertEqual(self.done("lookup", "full", country, "B", str(hertz)), line_of(country, hertz=hertz))
+        self.refused(9, "lookup", "full", "XI", "B", "50")
+        self.done(*self.readers("full")[0])
+        self.refused(8, "load", "full", "key", self.package(line_of("XI")), "XI", "B", "50")
+
+    def test_store_made_when_it_went_by_country_and_class_alone(self):
+        """It has each pair once, at either hertz: it is taken as it is, and the other hertz come beside it."""
+        whole = sealed((image_of() + image_of("XB", hertz=60)).ljust(IMAGE, b"\0"))
+        self.put("before", whole)
+        for line, other in ((LINE, "60"), (line_of("XB", hertz=60), "50")):
+            country, letter, hertz = device_of(line)
+            self.assertEqual(self.done("lookup", "before", country, letter, hertz), line)
+            self.refused(9, "lookup", "before", country, letter, other)
+            beside = line_of(country, letter, other, serial=1)
+            self.done("load", "before", self.key(), self.package(beside), country, letter, other)
+            self.assertEqual(self.done("lookup", "before", country, letter, other), beside)
+            self.assertEqual(self.done("lookup", "before", country, letter, hertz), line)
+
     def test_lookup_that_finds_nothing_says_so_of_a_damaged_image(self):
         image = self.get(self.store(LINE))[:IMAGE]
-        self.put("bad", image.replace(b"\x01XAB", b"\x01XAZ"))
-        self.damaged("lookup", "bad", "XA", "B")
+        for bad in (image.replace(b"\x01XAB", b"\x01XAZ"), image.replace(b"\x32\0\0\0", b"\x33\0\0\0")):
+            self.damaged("lookup", self.put("bad", bad), *DEVICE)
 
     def test_store_of_a_wrong_size_may_be_damaged(self):
         whole = self.get(self.store(LINE))
         for data in (whole[:1232], whole[:500], b"", whole + b"x"):
-            said = self.refused(1, "lookup", self.put("bad", data), "XA", "B")
+            said = self.refused(1, "lookup", self.put("bad", data), *DEVICE)
             self.assertIn("If it was a store, it is damaged", said)
-        self.assertNotIn("damaged", self.refused(1, "lookup", "key", "XA", "B"))
+        self.assertNotIn("damaged", self.refused(1, "lookup", "key", *DEVICE))
 
 
 class Former(Case):
@@ -463,7 +603,7 @@ class Former(Case):
         self.package()
         for data in self.stores():
             self.put("old", data)
-            for command, *more in (("load", "key", "package", "XA", "B"), ("lookup", "XA", "B")):
+            for command, *more in (("load", "key", "package", *DEVICE), ("lookup", *DEVICE)):
                 for name, shown in (("old", "old"), ("-", "standard input")):
                     said = self.refused(1, command, name, *more, stdin=data)
                     self.assertEqual(said, self.told(command, shown, len(data)) + self.ADVICE)
@@ -474,17 +614,18 @@ class Former(Case):
         self.package(), self.put("old", sealed(bytes(1024)))
         self.assertIn("old: it exists; --force replaces it", self.troubled(FILE_TROUBLE, "new-store", "old"))
         self.done("new-store", "old", "--force")
-        self.done("load", "old", "key", "package", "XA", "B")
-        self.assertEqual(self.done("lookup", "old", "XA", "B"), LINE)
+        self.done("load", "old", "key", "package", *DEVICE)
+        self.assertEqual(self.done("lookup", "old", *DEVICE), LINE)
 
     def test_10_comes_before_1(self):
         self.package(), self.put("old", sealed(bytes(1024)))
-        self.refused(10, "load", "old", "key", "package", "XA", "E")
-        self.refused(10, "lookup", "old", "XA", "E")
+        for device in (("XA", "E", "50"), ("XA", "B", "55")):
+            self.refused(10, "load", "old", "key", "package", *device)
+            self.refused(10, "lookup", "old", *device)
 
     def test_other_files_of_a_wrong_size_are_named_too(self):
         self.package(category=THIRD), self.put("old", sealed(bytes(1024)))
-        said = self.refused(1, "load", "old", "key", "package", "XA", "B")
+        said = self.refused(1, "load", "old", "key", "package", *DEVICE)
         self.assertEqual(re.findall("(?m)^  ([A-Z]+) .* has ", said), ["STORE", "KEY", "PACKAGE"])
         self.assertTrue(said.endswith(" at category 1\n" + self.ADVICE), said)
 
@@ -498,31 +639,44 @@ class Former(Case):
 
 class Lookup(Case):
     def test_stored_line(self):
-        self.assertEqual(self.done("lookup", self.store(LINE), "XA", "B"), LINE)
+        self.assertEqual(self.done("lookup", self.store(LINE), *DEVICE), LINE)
 
     def test_nothing_stored_is_9(self):
         self.store(LINE)
-        for device in (("XA", "C"), ("XB", "B")):
+        for device in (("XA", "C", "50"), ("XB", "B", "50")):
             self.refused(9, "lookup", "store", *device)
-        self.refused(9, "lookup", self.store(name="empty"), "XA", "B")
+        self.refused(9, "lookup", self.store(name="empty"), *DEVICE)
+
+    def test_other_hertz_are_9(self):
+        self.refused(9, "lookup", self.store(LINE), *DEVICE_60)
+        self.refused(9, "lookup", self.store(LINE_60), *DEVICE)
 
     def test_devices_that_do_not_exist_are_10(self):
         for device in (("Xa", "B"), ("XAA", "B"), ("XA", "F"), ("XA", "")):
-            self.refused(10, "lookup", self.store(name="empty"), *device)
+            self.refused(10, "lookup", self.store(name="empty"), *device, "50")
+
+    def test_hertz_that_do_not_exist_are_10(self):
+        self.store(LINE, LINE_60)
+        for hertz in NO_HERTZ:
+            self.refused(10, "lookup", "store", "XA", "B", "--", hertz)
+        for line in (LINE, LINE_60):
+            self.assertEqual(self.done("lookup", "store", "XA", "B", "--", device_of(line)[2]), line)
 
     def test_wrong_sizes_are_1(self):
         for size in (0, 1023, 1025, 1055, 1057, 1215, 1217, 1247, 1249):
-            said = self.refused(1, "lookup", self.put("bad", bytes(size)), "XA", "B")
+            said = self.refused(1, "lookup", self.put("bad", bytes(size)), *DEVICE)
             self.assertIn("it must have 1248 or 1216\n", said)
 
 
-WORDS = """country XA, class B, serial 12
+WORDS = """country XA, class B, 50 Hz, serial 12
   nominal         230 V, 50 Hz
   over-voltage    115.0 % of nominal (264.500 V), after 100 ms
   under-voltage   80.0 % of nominal (184.000 V), after 1500 ms
   over-frequency  1500 mHz above nominal (51.500 Hz), after 100 ms
   under-frequency 2500 mHz below nominal (47.500 Hz), after 100 ms
 """
+WORDS_60 = (WORDS.replace("serial 12", "serial 1").replace("50 Hz", "60 Hz").replace("51.500", "61.500")
+            .replace("47.500", "57.500"))
 RATE_WORDS = WORDS.replace("serial 12", "serial 13") + \
     "  rate of change  2000 mHz per second (2.000 Hz/s), after 500 ms\n"
 
@@ -534,7 +688,8 @@ class Show(Case):
         self.assertEqual(shown, told + WORDS)
 
     def test_line(self):
-        self.assertEqual(self.done("show", self.put("line", LINE)).decode(), "A line, not signed.\n" + WORDS)
+        for line, words in ((LINE, WORDS), (LINE_60, WORDS_60)):
+            self.assertEqual(self.done("show", self.put("line", line)).decode(), "A line, not signed.\n" + words)
 
     def test_rate_point(self):
         """It comes last, in a line, a package and a store; of a profile without one nothing is said of it."""
@@ -560,14 +715,14 @@ class Show(Case):
         shown = self.done("show", self.store(LINE, LINE_C)).decode()
         self.assertTrue(shown.startswith("A store with 2 of 16 profiles.\n"), shown)
         self.assertIn(WORDS, shown)
-        self.assertIn("country XA, class C, serial 5\n  nominal         400 V, 50 Hz\n", shown)
+        self.assertIn("country XA, class C, 50 Hz, serial 5\n  nominal         400 V, 50 Hz\n", shown)
         self.assertIn("  under-voltage   85.0 % of nominal (340.000 V), after 1500 ms\n", shown)
         self.assertEqual(self.done("show", self.store(name="empty")), b"A store with 0 of 16 profiles.\n")
 
     def test_every_digit_is_shown(self):
         line = b"GP1,QZ,D,4294967295,1000,60,1499,60000,7,20,1,59999,-4999,33\n"
         shown = self.done("show", self.put("line", line)).decode()
-        for words in ("country QZ, class D, serial 4294967295", "1000 V, 60 Hz",
+        for words in ("country QZ, class D, 60 Hz, serial 4294967295\n", "1000 V, 60 Hz",
                       "149.9 % of nominal (1499.000 V), after 60000 ms", "0.7 % of nominal (7.000 V), after 20 ms",
                       "1 mHz above nominal (60.001 Hz), after 59999 ms",
                       "4999 mHz below nominal (55.001 Hz), after 33 ms"):
@@ -615,10 +770,10 @@ def listing(text):
     rows = {}
     for line in text.splitlines():
         fields = line.split(b",")
-        pair, serial = (fields[1], fields[2]), int(fields[3])
-        if serial > rows.get(pair, 0) and (pair in rows or len(rows) < 16):
-            rows[pair] = serial
-    return sorted(b"%s,%s,%d" % (*pair, serial) for pair, serial in rows.items())
+        triple, serial = (fields[1], fields[2], fields[5]), int(fields[3])
+        if serial > rows.get(triple, 0) and (triple in rows or len(rows) < 16):
+            rows[triple] = serial
+    return sorted(b"%s,%s,%s,%d" % (*triple, serial) for triple, serial in rows.items())
 
 
 class Preview(Case):
@@ -635,35 +790,65 @@ class Preview(Case):
         if os.path.exists(PREVIEW):
             shown.append(subprocess.run([PREVIEW], input=text, stdout=subprocess.PIPE, check=True).stdout)
         for one in shown:
-            self.assertTrue(one.startswith(b"COUNTRY,CLASS,SERIAL\n") and one.endswith(b"\n"), one)
+            self.assertTrue(one.startswith(b"COUNTRY,CLASS,HERTZ,SERIAL\n") and one.endswith(b"\n"), one)
             self.assertEqual(sorted(one.splitlines()[1:]), rows)
+        return shown
 
     def test_example(self):
-        self.agree(LINE + LINE_C, [b"XA,B,12", b"XA,C,5"])
+        self.agree(LINE + LINE_C, [b"XA,B,50,12", b"XA,C,50,5"])
+        self.agree(LINE + LINE_C + RATE_LINE + LINE_60, [b"XA,B,50,13", b"XA,B,60,1", b"XA,C,50,5"])
+
+    def test_both_hertz_of_a_country_and_class(self):
+        """Each by its own serials, in either order."""
+        for text in (LINE + LINE_60, LINE_60 + LINE):
+            self.agree(text, [b"XA,B,50,12", b"XA,B,60,1"])
+            self.agree(text + line_of(serial=11) + line_of(hertz=60, serial=2), [b"XA,B,50,12", b"XA,B,60,2"])
+            self.agree(text + line_of(serial=13) + line_of(hertz=60, serial=1), [b"XA,B,50,13", b"XA,B,60,1"])
+
+    def test_seventeen_triples(self):
+        """The last is skipped, also where it is the other hertz of a country and class that is listed."""
+        both = list(itertools.product(("XA", "XB", "XC"), "ABCD", (50, 60)))
+        for triples in (both[:17], [*both[:16], both[-1]], [*both[::2][:12], *both[1::2][:5]]):
+            lines = [line_of(*triple) for triple in triples]
+            rows = sorted(b"%s,%s,%d,12" % (country.encode(), letter.encode(), hertz)
+                          for country, letter, hertz in triples[:16])
+            text = b"".join(lines)
+            self.assertEqual((len(lines), listing(text)), (17, rows))
+            self.agree(text, rows)
+            newer = text + line_of(*triples[15], serial=13) + line_of(*triples[16], serial=99)
+            self.agree(newer, listing(newer))
+
+    def test_longest_listing(self):
+        """16 rows of the greatest length: it fills what is lent."""
+        lines = [line_of(*triple, serial=4294967295) for triple in itertools.product(("XA", "ZZ"), "ABCD", (50, 60))]
+        text = b"".join(lines)
+        for one in self.agree(text, listing(text)):
+            self.assertEqual(len(one), 27 + 16 * 19)
 
     def test_nothing(self):
         for text in (b"", b"\n\n\n", LINE[:-1], BAD_LINE, b"x" * 65536, bytes(range(256)) * 200):
             self.agree(text, [])
 
     def test_bad_and_unfinished_lines_are_skipped(self):
-        self.agree(BAD_LINE + LINE + b"\n" + LINE_C[:-1], [b"XA,B,12"])
+        self.agree(BAD_LINE + LINE + b"\n" + LINE_C[:-1], [b"XA,B,50,12"])
 
     def test_many_lines(self):
-        lines = [line_of("X" + chr(65 + n * 7 % 6), "ABCD"[n * 5 % 4], 1 + n * 37 % 101) for n in range(900)]
+        lines = [line_of("X" + chr(65 + n * 7 % 6), "ABCD"[n * 5 % 4], (50, 60)[n // 12 % 2], 1 + n * 37 % 101)
+                 for n in range(900)]
         text = b"".join(lines)
         self.assertLessEqual(len(text), 65536)
         self.agree(text, listing(text))
 
     def test_longest_input(self):
         text = LINE + b"\n" * (65536 - len(LINE))
-        self.agree(text, [b"XA,B,12"])
+        self.agree(text, [b"XA,B,50,12"])
         self.assertEqual(self.listed("preview", stdin=text + b"\n"), b"too long\n")
         self.assertEqual(self.listed("preview", "/dev/zero"), b"too long\n")
 
 
 class Usage(Case):
-    COUNTS = {"new-key": (2, 2), "key": (2, 2), "sign": (3, 3), "verify": (2, 2), "new-store": (1, 1), "load": (5, 5),
-              "lookup": (3, 3), "show": (1, 1), "preview": (0, 1)}
+    COUNTS = {"new-key": (2, 2), "key": (2, 2), "sign": (3, 3), "verify": (2, 2), "new-store": (1, 1), "load": (6, 6),
+              "lookup": (4, 4), "show": (1, 1), "preview": (0, 1)}
 
     def test_help(self):
         shown = self.done("help").decode()
@@ -675,6 +860,7 @@ class Usage(Case):
             self.assertRegex(shown, rf"(?m)^  {number:2}  \w")
         for number in (WRONG_USAGE, DAMAGED_STORE, SELF_CHECK_FAILED, NO_RANDOM_BYTES, FILE_TROUBLE):
             self.assertRegex(shown, rf"[;:]\s{number} ")
+        self.assertIn("\nCOUNTRY is two letters A to Z, CLASS one letter A to D, HERTZ 50 or 60.\n", shown)
 
     def test_help_of_a_command(self):
         for name in self.COUNTS:
@@ -717,11 +903,19 @@ class Usage(Case):
                 self.assertIn(f"gridprofile {name}: ", said[0])
                 self.assertTrue(said[1].startswith(f"usage: gridprofile {name} "), said)
 
+    def test_command_without_its_hertz(self):
+        """As it was written before they counted."""
+        self.package(), self.store()
+        for words in (["load", "store", "key", "package", "XA", "B"], ["lookup", "store", "XA", "B"]):
+            said = self.wrong(*words)
+            self.assertEqual(said[0], f"gridprofile {words[0]}: an argument is missing")
+            self.assertIn(" COUNTRY CLASS HERTZ", said[1])
+
     def test_wrong_options(self):
         self.package()
         for words in (["show", "--force", "key"], ["key", "private", "out", "--forc"],
                       ["key", "private", "out", "-key"],
-                      ["key", "private", "out", "--key", "key"], ["lookup", "store", "XA", "B", "--wait", "1"],
+                      ["key", "private", "out", "--key", "key"], ["lookup", "store", *DEVICE, "--wait", "1"],
                       ["key", "private", "out", "--wait"], ["key", "private", "out", "--wait", "x"],
                       ["key", "private", "out", "--wait", "-1"], ["key", "private", "out", "--wait", ""],
                       ["key", "private", "out", "--wait", "86401"], ["key", "private", "out", "--wait", "9" * 30],
@@ -730,7 +924,8 @@ class Usage(Case):
                       ["key", "private", "out", "--force]", "5"],
                       ["key", "private", "out", "--wait SECONDS", "5"],
                       ["key", "private", "out", "--wait SECONDS]", "5"],
-                      ["load", "store", "key", "package", "XA", "B", "--force"],
+                      ["load", "store", "key", "package", *DEVICE, "--force"],
+                      ["load", "store", "key", "package", "XA", "B", "-50"], ["lookup", "store", "XA", "B", "-50"],
                       ["verify", "key", "package", "--wait", "1"],
                       ["sign", "private", "line", "out", "--key"], ["sign", "private", "line", "out", "-x"],
                       ["sign", "private", "line", "out", "--key", "key", "--key", "key"]):
@@ -807,9 +1002,13 @@ class Readme(Case):
             self.assertIn(told, ran.stdout)
 
     def test_every_command_is_in_the_table(self):
+        """With the arguments that its own help names."""
         with open(os.path.join(ROOT, "README.md"), encoding="utf-8") as file:
-            named = re.findall(r"^\| `([a-z-]+) [A-Z\[\] ]+` \|", file.read(), re.M)
+            named = dict(re.findall(r"^\| `([a-z-]+) ([A-Z\[\] ]+)` \|", file.read(), re.M))
         self.assertEqual(sorted(named), sorted(Usage.COUNTS))
+        for name, arguments in named.items():
+            synopsis = self.done("help", name).decode().splitlines()[0]
+            self.assertEqual(synopsis.split(" [--")[0], f"usage: gridprofile {name} {arguments}")
 
 
 def formats():
@@ -906,8 +1105,8 @@ class Firmware(Case):
         built = subprocess.run(command, cwd=ROOT, capture_output=True, check=False)
         self.assertEqual((built.returncode, built.stdout + built.stderr), (0, b""))
 
-    def with_flash(self, old, new):
-        """A firmware whose simulated flash is another: how it ends with a good package, and what it says."""
+    def with_other(self, old, new, line=LINE):
+        """A firmware whose simulated flash or setting is another: how it ends with a package, and what it says."""
         with open(os.path.join(ROOT, self.SOURCE), encoding="utf-8") as file:
             text = file.read()
         self.assertEqual(text.count(old), 1, old)
@@ -915,7 +1114,7 @@ class Firmware(Case):
                    self.PROGRAM: self.path("other")}
         self.assertLessEqual(set(changed), set(self.command))
         self.build([changed.get(word, word) for word in self.command] + ["-I", "examples"])
-        package = self.get(self.package())
+        package = self.get(self.package(line))
         ran = subprocess.run([self.path("other")], input=package, capture_output=True, check=False)
         return ran.returncode, ran.stdout
 
@@ -944,7 +1143,7 @@ class Firmware(Case):
 
     def test_flash_that_does_not_take_the_new_store(self):
         """The last byte of the second record is lost: the device goes on with the store that it had."""
-        ran = self.with_flash(self.TAKES, self.TAKES.replace("length", "length - bank"))
+        ran = self.with_other(self.TAKES, self.TAKES.replace("length", "length - bank"))
         said = b"verify answers 0\nload answers 0\ncommit answers 3\nlookup answers 9\n"
         self.assertEqual(ran, (100, said + b"load of the same package again answers 0\n"))
 
@@ -957,13 +1156,22 @@ class Firmware(Case):
 
     def test_flash_without_a_store(self):
         """The last byte of every record is lost: the device does not start with an empty store."""
-        ran = self.with_flash(self.TAKES, self.TAKES.replace("length", "length - 1"))
+        ran = self.with_other(self.TAKES, self.TAKES.replace("length", "length - 1"))
         self.assertEqual(ran, (101, b"reading the store answers 2\n"))
 
+    def test_device_in_the_other_half_of_the_country(self):
+        """It takes the package of its own hertz, and refuses the other; one of no hertz takes none."""
+        for hertz, line, answer, then, again in ((60, LINE_60, 0, b"committed\nlookup answers 0\n" + LINE_60, 7),
+                                                 (60, LINE, 6, b"lookup answers 9\n", 6),
+                                                 (55, LINE, 10, b"lookup answers 10\n", 10)):
+            said = b"verify answers 0\nload answers %d\n%sload of the same package again answers %d\n"
+            ran = self.with_other("hertz = 50;", f"hertz = {hertz};", line)
+            self.assertEqual(ran, (answer, said % (answer, then, again)))
+
     def test_refused_packages(self):
-        package, other = self.get(self.package()), self.get(self.package(LINE_C))
+        package, others = self.get(self.package()), [self.get(self.package(line)) for line in (LINE_C, LINE_60)]
         for verify, load, data in ((4, 4, flip(package, SIGNATURE - 1)), (1, 1, package[:100]), (1, 1, b""),
-                                   (1, 1, package + bytes(99)), (0, 6, other)):
+                                   (1, 1, package + bytes(99)), *((0, 6, other) for other in others)):
             ran = subprocess.run([os.path.join(ROOT, "target/firmware")], input=data, capture_output=True, check=False)
             self.assertEqual(ran.returncode, load)
             said = b"verify answers %d\nload answers %d\nlookup answers 9\n" % (verify, load)
@@ -975,8 +1183,9 @@ class Demo(Case):
         ran = subprocess.run([os.path.join(ROOT, "tools/demo"), PROGRAM], env={**os.environ, "TMPDIR": self.folder},
                              capture_output=True, check=False)
         self.assertEqual(ran.returncode, 0, ran.stderr)
-        for words in (b"refused with 6: ", b"exit status 6\n", b"A store with 2 of 16 profiles.\n",
-                      RATE_WORDS.encode(), b"\n" + RATE_LINE,
+        for words in (b"\nAccepted: country XA, class B, 60 Hz, serial 1\nNothing was stored for ", b"refused with 6: ",
+                      b"exit status 6\n", b"A store with 2 of 16 profiles.\n", RATE_WORDS.encode(), WORDS_60.encode(),
+                      b" XA B 50\n" + RATE_LINE, b" XA B 60\n" + LINE_60,
                       b"\n$ gridprofile verify key.5 xa-b.5.package --category 5\nThe signature holds", b"\nDone: "):
             self.assertIn(words, ran.stdout)
         self.assertEqual(self.names(), [])

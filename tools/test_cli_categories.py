@@ -5,9 +5,9 @@ import itertools
 import os
 import stat
 
-from cli_case import (CATEGORIES, FIFTH, FILE_TROUBLE, FIRST, GIVEN, IMAGE, KINDS, LEAST_LINE, LINE, LINE_77, LINE_C,
-                      LONGEST_RATE, MOST_LINE, RATE_LINE, RIVALS, ROOT, SHORTEST, STORE, THIRD, WRONG_USAGE, Case,
-                      fingerprint, line_of)
+from cli_case import (CATEGORIES, DEVICE, DEVICE_60, FIFTH, FILE_TROUBLE, FIRST, GIVEN, IMAGE, KINDS, LEAST_LINE, LINE,
+                      LINE_60, LINE_77, LINE_C, LONGEST_RATE, MOST_LINE, RATE_LINE, RIVALS, ROOT, SHORTEST, STORE,
+                      THIRD, WRONG_USAGE, Case, device_of, fingerprint, line_of)
 from test_cli_lines import NO_LINE
 
 # Lines with the size of a seed of category 3 and of one of category 5.
@@ -40,16 +40,16 @@ class Each(Case):
             self.assertEqual(self.done("key", private, f"again{number}", *option).decode(), name)
             self.assertEqual(self.get(f"again{number}"), self.get(key))
             said = self.done("sign", private, self.put("line", LINE), package, *option).decode()
-            self.assertEqual(said, "Signed and verified: country XA, class B, serial 12\n" + name)
+            device = "country XA, class B, 50 Hz, serial 12\n"
+            self.assertEqual(said, "Signed and verified: " + device + name)
             self.assertEqual(len(self.get(package)), category.signature + len(LINE))
             said = self.done("verify", key, package, *option).decode()
-            self.assertEqual(said, "The signature holds, and the line is a profile: country XA, class B, serial 12\n"
-                             + name)
+            self.assertEqual(said, "The signature holds, and the line is a profile: " + device + name)
             self.done("new-store", store)
-            said = self.done("load", store, key, package, "XA", "B", *option).decode()
-            self.assertEqual(said, "Accepted: country XA, class B, serial 12\nNothing was stored for this country and "
-                             "class before.\n" + name)
-            self.assertEqual(self.done("lookup", store, "XA", "B"), LINE)
+            said = self.done("load", store, key, package, *DEVICE, *option).decode()
+            self.assertEqual(said, f"Accepted: {device}Nothing was stored for this country, class and hertz before.\n"
+                             + name)
+            self.assertEqual(self.done("lookup", store, *DEVICE), LINE)
 
     def test_show_says_the_category(self):
         for category in CATEGORIES:
@@ -59,7 +59,7 @@ class Each(Case):
             self.assertRegex(shown, r"\nkey fingerprint:( [0-9a-f]{4}){%d}\n$" % (category.master // 2))
             shown = self.done("show", self.package(category=category)).decode()
             self.assertTrue(shown.startswith(f"A package of category {category.number}. Showing does not verify it; "
-                                             "`verify` and `load` do.\ncountry XA, class B, serial 12\n"), shown)
+                                             "`verify` and `load` do.\ncountry XA, class B, 50 Hz, serial 12\n"), shown)
 
     def test_show_looks_at_each_field_of_a_key(self):
         for category in CATEGORIES:
@@ -107,20 +107,34 @@ class Each(Case):
         self.assertEqual((len(self.get("fresh")), len(self.get("fresh.key"))), (FIRST.seed, FIRST.key))
         for option in ((), FIRST.option()):
             self.done("verify", "key", "package", *option)
-            self.done("load", self.store(), "key", "package", "XA", "B", *option)
+            self.done("load", self.store(), "key", "package", *DEVICE, *option)
 
     def test_one_store_takes_packages_of_each(self):
         self.store()
-        lines = [line_of("XA", "B", serial) for serial in (12, 13, 14)]
+        lines = [line_of(serial=serial) for serial in (12, 13, 14)]
         for category, line in zip((FIFTH, FIRST, THIRD), lines):
-            self.done("load", "store", self.key(category=category), self.package(line, category=category), "XA", "B",
+            self.done("load", "store", self.key(category=category), self.package(line, category=category), *DEVICE,
                       *category.option())
-            self.assertEqual(self.done("lookup", "store", "XA", "B"), line)
-        self.done("load", "store", "key", self.package(LINE_C, category=THIRD), "XA", "C", *THIRD.option())
-        said = self.refused(7, "load", "store", self.key(category=FIFTH), self.package(lines[1], category=FIFTH), "XA",
-                            "B", *FIFTH.option())
+            self.assertEqual(self.done("lookup", "store", *DEVICE), line)
+        self.done("load", "store", "key", self.package(LINE_C, category=THIRD), "XA", "C", "50", *THIRD.option())
+        said = self.refused(7, "load", "store", self.key(category=FIFTH), self.package(lines[1], category=FIFTH),
+                            *DEVICE, *FIFTH.option())
         self.assertIn("the serial, 13, is not greater than the stored one, 14\n", said)
         self.assertTrue(self.done("show", "store").startswith(b"A store with 2 of 16 profiles.\n"))
+
+    def test_both_hertz_at_each(self):
+        """Every loader goes by the hertz: it takes each half's package on a device of that half alone, and stores it
+        beside the other's, whose serial is greater."""
+        for category in CATEGORIES:
+            self.store()
+            for line, other in ((LINE, DEVICE_60), (LINE_60, DEVICE)):
+                words = "load", "store", self.key(category=category), self.package(line, category=category)
+                self.refused(6, *words, *other, *category.option())
+                self.refused(10, *words, *other[:2], "55", *category.option())
+                self.done(*words, *device_of(line), *category.option())
+                self.refused(7, *words, *device_of(line), *category.option())
+            for line in (LINE, LINE_60):
+                self.assertEqual(self.done("lookup", "store", *device_of(line)), line)
 
     def test_damage_is_3_or_4(self):
         for category in CATEGORIES:
@@ -130,7 +144,7 @@ class Each(Case):
                                                  (4, key, flip(package, category.signature - 1)),
                                                  (4, flip(key, 0), package)):
                 self.put("bad", bad_key), self.put("bad-package", bad_package)
-                for words in (["verify", "bad", "bad-package"], ["load", "store", "bad", "bad-package", "XA", "B"]):
+                for words in (["verify", "bad", "bad-package"], ["load", "store", "bad", "bad-package", *DEVICE]):
                     said = self.refused(number, *words, *category.option())
                     self.assertEqual("\n  " + fingerprint(bad_key, category) in said, number == 4, said)
 
@@ -199,7 +213,7 @@ class Other(Case):
         for asked, parts in self.chosen(("key", "package")):
             files = [f"{name}{of.number}" for name, of in parts]
             self.check(["verify", *files], asked, *parts)
-            self.check(["load", "store", *files, "XA", "B"], asked, *parts)
+            self.check(["load", "store", *files, *DEVICE], asked, *parts)
 
     def test_key(self):
         for asked, parts in self.chosen(("private",)):
@@ -244,15 +258,16 @@ class Other(Case):
         """Also where one of them could be: a file that no category has in its place says more."""
         self.put("cut", self.get("package3")[:-30]), self.put("open", self.get("master1"))
         for words in (["verify", "package3", "key3"], ["verify", "key3", "private3"], ["verify", "key3", "store"],
-                      ["verify", "key3", "cut"], ["load", "store", "package5", "key5", "XA", "B"],
+                      ["verify", "key3", "cut"], ["load", "store", "package5", "key5", *DEVICE],
                       ["key", "key3", "out"], ["key", "package5", "out"],
                       ["sign", "private1", "line", "out", "--key", "key1", "--given-master-seed", "salt1",
                        "--given-salt", "open"]):
             self.assertIn(f"  What to do: {ORDER}.\n", self.refused(1, *words))
 
     def test_10_comes_before_1(self):
-        said = self.refused(10, "load", "store", "key3", "package3", "XA", "E")
-        self.assertEqual(len(said.splitlines()), 2, said)
+        for device in (("XA", "E", "50"), ("XA", "B", "55")):
+            said = self.refused(10, "load", "store", "key3", "package3", *device)
+            self.assertEqual(len(said.splitlines()), 2, said)
 
 
 class Shared(Case):
@@ -353,7 +368,7 @@ class LineOrKey(Case):
         """It is a key all the same, wherever one is asked for."""
         key = self.key_like_line()
         self.assertIn(fingerprint(key).encode(), self.done("verify", "key", "package"))
-        self.done("load", "store", "key", "package", "XA", "B")
+        self.done("load", "store", "key", "package", *DEVICE)
         self.done("sign", "private", "line", "out", "--key", "key")
         self.done("verify", "-", "out", stdin=key)
         self.done("key", "private", "key", "--force")
@@ -363,7 +378,7 @@ class LineOrKey(Case):
         key = self.get("key")
         self.assertEqual(self.done("show", "key").decode(), "A public key of category 1.\n" + fingerprint(key))
         shown = self.done("show", "good")
-        self.assertTrue(shown.startswith(b"A line, not signed.\ncountry XA, class D, serial 123\n"), shown)
+        self.assertTrue(shown.startswith(b"A line, not signed.\ncountry XA, class D, 60 Hz, serial 123\n"), shown)
         self.assertEqual((self.done("show", "-", stdin=key), self.done("show", "-", stdin=LINE_77)),
                          (self.done("show", "key"), shown))
         self.assertIn("a field is out of range", self.refused(3, "show", self.put("damaged", flip(key, -1, 0x80))))
@@ -381,7 +396,7 @@ class LineOrKey(Case):
         self.assertIn("KEY is not the public key of PRIVATE", self.troubled(WRONG_USAGE, *sign, "bad"))
         self.put("odd", LINE_77[:-1] + b"\xff")
         for number, name in ((4, "good"), (4, "bad"), (3, "odd")):
-            for words in (["verify", name, "package"], ["load", "store", name, "package", "XA", "B"]):
+            for words in (["verify", name, "package"], ["load", "store", name, "package", *DEVICE]):
                 said = self.refused(number, *words)
                 self.assertIn(f"\n  KEY ({name}) begins as a profile line does; see whether files are exchanged\n",
                               said)
@@ -396,7 +411,7 @@ class LineOrKey(Case):
         self.assertEqual(len(said.splitlines()), 3, said)
         ended = self.get("key")[:-1].replace(b"\n", b"x") + b"\n"
         shown, said = self.warned("preview", self.put("ended", ended))
-        self.assertEqual((shown, said), (b"COUNTRY,CLASS,SERIAL\n",
+        self.assertEqual((shown, said), (b"COUNTRY,CLASS,HERTZ,SERIAL\n",
                                          "gridprofile preview: 1 of 1 lines skipped; the first is line 1:\n"
                                          f"  {NO_LINE}, but has the size of a public key of category 1\n"))
         self.key_like_line()
@@ -407,9 +422,9 @@ class LineOrKey(Case):
     def test_line_in_its_own_place(self):
         self.done("sign", "private", "good", "out")
         self.done("verify", "key", "out")
-        self.done("load", "store", "key", "out", "XA", "D")
-        self.assertEqual(self.done("lookup", "store", "XA", "D"), LINE_77)
-        self.assertEqual(self.done("preview", "good"), b"COUNTRY,CLASS,SERIAL\nXA,D,123\n")
+        self.done("load", "store", "key", "out", *device_of(LINE_77))
+        self.assertEqual(self.done("lookup", "store", *device_of(LINE_77)), LINE_77)
+        self.assertEqual(self.done("preview", "good"), b"COUNTRY,CLASS,HERTZ,SERIAL\nXA,D,60,123\n")
         self.assertIn('field 6, hertz, is "55"', self.refused(5, "sign", "private", "bad", "out2"))
 
     def test_in_the_place_of_other_files(self):
@@ -417,8 +432,8 @@ class LineOrKey(Case):
         for role, *words in (("PRIVATE", "key", "?", "out"), ("PRIVATE", "sign", "?", "line", "out"),
                              ("MASTER", "sign", "private", "line", "out", *given[:3], "?", *given[4:]),
                              ("SALT", "sign", "private", "line", "out", *given[:5], "?"),
-                             ("PACKAGE", "verify", "key", "?"), ("PACKAGE", "load", "store", "key", "?", "XA", "B"),
-                             ("STORE", "load", "?", "key", "package", "XA", "B"), ("STORE", "lookup", "?", "XA", "B"),
+                             ("PACKAGE", "verify", "key", "?"), ("PACKAGE", "load", "store", "key", "?", *DEVICE),
+                             ("STORE", "load", "?", "key", "package", *DEVICE), ("STORE", "lookup", "?", *DEVICE),
                              ("KEY", "verify", "?", "package", *THIRD.option())):
             for name, kind in (("key", KINDS[77]), ("good", "a profile line"), ("bad", "a profile line")):
                 said = self.refused(1, *(name if word == "?" else word for word in words))
@@ -433,8 +448,8 @@ class LineOrKey(Case):
 
 class Option(Case):
     TAKES = {"new-key": ["fresh", "fresh.key"], "key": ["private", "out"], "sign": ["private", "line", "out"],
-             "verify": ["key", "package"], "load": ["store", "key", "package", "XA", "B"]}
-    OTHERS = {"new-store": ["fresh"], "lookup": ["store", "XA", "B"], "show": ["key"], "preview": ["line"]}
+             "verify": ["key", "package"], "load": ["store", "key", "package", *DEVICE]}
+    OTHERS = {"new-store": ["fresh"], "lookup": ["store", *DEVICE], "show": ["key"], "preview": ["line"]}
 
     def wrong(self, what, *words):
         said = self.troubled(WRONG_USAGE, *words).splitlines()

@@ -1,6 +1,7 @@
 """The command-line program and what surrounds it: files, streams, permissions, secrets, runs at the same time."""
 
 import fcntl
+import itertools
 import os
 import pty
 import resource
@@ -10,8 +11,8 @@ import subprocess
 import time
 import unittest
 
-from cli_case import (CATEGORIES, DAMAGED_STORE, FILE_TROUBLE, FIRST, GIVEN, IMAGE, LINE, PRIVATE, PROGRAM,
-                      STORE, WRONG_USAGE, Case, line_of, sealed)
+from cli_case import (CATEGORIES, DAMAGED_STORE, DEVICE, FILE_TROUBLE, FIRST, GIVEN, IMAGE, LINE, PRIVATE, PROGRAM,
+                      STORE, WRONG_USAGE, Case, device_of, line_of, sealed)
 
 NOBODY = 65534
 
@@ -43,12 +44,12 @@ class Streams(Case):
     def test_each_input_of_load_from_the_stream(self):
         key, package = self.get(self.key()), self.get(self.package())
         self.store(name="one"), self.store(name="two")
-        self.done("load", "one", "-", "package", "XA", "B", stdin=key)
-        self.done("load", "two", "key", "-", "XA", "B", stdin=package)
-        piped, said = self.warned("load", "-", "key", "package", "XA", "B", stdin=EMPTY)
-        self.assertIn("Accepted: country XA, class B, serial 12\n", said)
+        self.done("load", "one", "-", "package", *DEVICE, stdin=key)
+        self.done("load", "two", "key", "-", *DEVICE, stdin=package)
+        piped, said = self.warned("load", "-", "key", "package", *DEVICE, stdin=EMPTY)
+        self.assertIn("Accepted: country XA, class B, 50 Hz, serial 12\n", said)
         self.assertEqual({self.get("one"), self.get("two"), piped}, {piped})
-        self.assertEqual(self.done("lookup", "-", "XA", "B", stdin=piped), LINE)
+        self.assertEqual(self.done("lookup", "-", *DEVICE, stdin=piped), LINE)
         self.assertIn(b"A store with 1 of 16", self.done("show", "-", stdin=piped))
         self.assertIn(b"holds", self.done("verify", "key", "-", stdin=package))
 
@@ -57,15 +58,15 @@ class Streams(Case):
 
     def test_refusals_write_nothing_to_the_stream(self):
         self.key(), self.package()
-        self.refused(1, "load", "-", "key", "package", "XA", "B", stdin=b"")
-        self.refused(6, "load", "-", "key", "package", "XA", "C", stdin=EMPTY)
+        self.refused(1, "load", "-", "key", "package", *DEVICE, stdin=b"")
+        self.refused(6, "load", "-", "key", "package", "XA", "C", "50", stdin=EMPTY)
         self.refused(1, "key", "-", "-", stdin=b"short")
         self.refused(5, "sign", "private", "-", "-", stdin=b"x" * 50)
 
     def test_two_inputs_cannot_both_be_the_stream(self):
         self.key(), self.package()
         self.troubled(WRONG_USAGE, "verify", "-", "-", stdin=self.get("key"))
-        self.troubled(WRONG_USAGE, "load", "-", "-", "package", "XA", "B", stdin=EMPTY)
+        self.troubled(WRONG_USAGE, "load", "-", "-", "package", *DEVICE, stdin=EMPTY)
         self.troubled(WRONG_USAGE, "sign", "-", "-", "out", stdin=PRIVATE)
         self.troubled(WRONG_USAGE, "sign", "-", "line", "out", "--key", "-", stdin=PRIVATE)
 
@@ -73,9 +74,9 @@ class Streams(Case):
         self.store(LINE)
         lines = self.put("lines", LINE)
         with open("/dev/full", "wb") as full:
-            for words in (["key", "private", "-"], SIGN, ["new-store", "-"], ["lookup", "store", "XA", "B"],
+            for words in (["key", "private", "-"], SIGN, ["new-store", "-"], ["lookup", "store", *DEVICE],
                           ["show", "package"], ["preview", lines], ["verify", "key", "package"],
-                          ["load", "-", "key", "package", "XA", "B"], ["help"], ["--version"], ["help", "sign"]):
+                          ["load", "-", "key", "package", *DEVICE], ["help"], ["--version"], ["help", "sign"]):
                 self.troubled(FILE_TROUBLE, *words, stdin=EMPTY, stdout=full)
 
     def test_new_key_that_cannot_be_printed(self):
@@ -91,7 +92,7 @@ class Streams(Case):
         self.addCleanup(os.close, controller)
         with os.fdopen(terminal, "wb") as out:
             for words in (["key", "private", "-"], SIGN, ["new-store", "-"], ["new-key", "fresh", "-"],
-                          ["load", "-", "key", "package", "XA", "B"]):
+                          ["load", "-", "key", "package", *DEVICE]):
                 said = self.troubled(WRONG_USAGE, *words, stdin=EMPTY, stdout=out)
                 self.assertIn("standard output is a terminal", said)
             self.assertEqual(self.run_in("show", "key", stdout=out).returncode, 0)
@@ -117,8 +118,8 @@ class Streams(Case):
                 _, said = self.warned(*words, f"out{at}", stdout=full)
                 self.assertIn("what was asked for is done", said)
                 self.assertNotEqual(self.get(f"out{at}"), b"")
-            self.warned("load", "store", "key", "package", "XA", "B", stdout=full)
-        self.assertEqual(self.done("lookup", "store", "XA", "B"), LINE)
+            self.warned("load", "store", "key", "package", *DEVICE, stdout=full)
+        self.assertEqual(self.done("lookup", "store", *DEVICE), LINE)
 
     def test_reader_that_goes_away(self):
         self.key(), self.package()
@@ -132,14 +133,14 @@ class Streams(Case):
         self.key(), self.package(), self.store()
         for stream, words in ((0, ["key", "-", "out"]), (1, ["key", "private", "-"]), (1, ["show", "package"])):
             self.troubled(FILE_TROUBLE, *words, stdin=None, preexec_fn=lambda at=stream: os.close(at))
-        said = self.troubled(FILE_TROUBLE, "load", "store", "key", "-", "XA", "B", stdin=None,
+        said = self.troubled(FILE_TROUBLE, "load", "store", "key", "-", *DEVICE, stdin=None,
                              preexec_fn=lambda: os.close(0))
         self.assertEqual(said, "gridprofile: cannot read standard input: Bad file descriptor\n")
         for letter, status in (("C", 6), ("B", 0)):
-            words = ["load", "store", "key", "package", "XA", letter]
+            words = ["load", "store", "key", "package", "XA", letter, "50"]
             ran = self.run_in(*words, stdin=None, preexec_fn=lambda: os.closerange(0, 3))
             self.assertEqual(ran.returncode, status)
-        self.assertEqual(self.done("lookup", "store", "XA", "B"), LINE)
+        self.assertEqual(self.done("lookup", "store", *DEVICE), LINE)
         for closed in ((0,), (1,), (2,), (0, 1), (1, 2), (0, 2)):
             name = "fresh" + "".join(map(str, closed))
             ran = self.run_in("new-key", name, name + ".key", stdin=None,
@@ -152,7 +153,7 @@ class Inputs(Case):
         """Every command with a place for each input."""
         self.package(), self.store()
         whole = (["key", "private", "-"], SIGN, ["verify", "key", "package"],
-                 ["load", "store", "key", "package", "XA", "B"], ["lookup", "store", "XA", "B"], ["show", "package"],
+                 ["load", "store", "key", "package", *DEVICE], ["lookup", "store", *DEVICE], ["show", "package"],
                  ["preview", "line"])
         for words in whole:
             for at, word in enumerate(words[1:], 1):
@@ -194,7 +195,7 @@ class Outputs(Case):
         """Every command that writes a file; `load` changes one that must be there."""
         self.key(), self.package()
         return (["new-key", "fresh", name], ["key", "private", name], ["sign", "private", "line", name],
-                ["new-store", name], ["load", name, "key", "package", "XA", "B"])
+                ["new-store", name], ["load", name, "key", "package", *DEVICE])
 
     def test_nothing_but_the_file_is_left(self):
         for words in self.writers("out"):
@@ -217,7 +218,7 @@ class Outputs(Case):
             self.assertIn("File too large", self.troubled(FILE_TROUBLE, *words, preexec_fn=no_file_may_grow))
         self.store(LINE)
         newer = self.package(line_of(serial=13))
-        self.troubled(FILE_TROUBLE, "load", "store", "key", newer, "XA", "B", preexec_fn=no_file_may_grow)
+        self.troubled(FILE_TROUBLE, "load", "store", "key", newer, *DEVICE, preexec_fn=no_file_may_grow)
 
     def test_missing_folder(self):
         for name in ("missing/out", "key/out", ""):
@@ -273,9 +274,9 @@ class Outputs(Case):
         os.mkdir(self.path("far"))
         self.put("far/store", EMPTY)
         os.symlink("far/store", self.path("link"))
-        self.done("load", "link", "key", "package", "XA", "B")
+        self.done("load", "link", "key", "package", *DEVICE)
         self.assertTrue(os.path.islink(self.path("link")))
-        self.assertEqual(self.done("lookup", "far/store", "XA", "B"), LINE)
+        self.assertEqual(self.done("lookup", "far/store", *DEVICE), LINE)
 
     def test_output_that_is_an_input(self):
         self.key(), self.package()
@@ -298,7 +299,7 @@ class Outputs(Case):
         os.chmod(self.path("open"), 0o777)
         os.chmod(self.path("open/locked"), 0o444)
         os.chmod(self.path("private"), 0o644)
-        cases.append(["load", "open/locked", "key", "package", "XA", "B"])
+        cases.append(["load", "open/locked", "key", "package", *DEVICE])
         cases.append(["new-store", "open/locked", "--force"])
         cases.append(["new-key", "shut/fresh", "open/key"])
         for words in cases:
@@ -333,7 +334,7 @@ class Outputs(Case):
             os.chown(self.path("drop/store"), NOBODY, NOBODY)
         os.chmod(self.path("drop"), 0o333)
         for status, words in ((0, ["key", "private", "drop/key"]), (0, ["sign", "private", "line", "drop/package"]),
-                              (FILE_TROUBLE, ["load", "drop/store", "key", "package", "XA", "B"])):
+                              (FILE_TROUBLE, ["load", "drop/store", "key", "package", *DEVICE])):
             ran = subprocess.run([program, *words], cwd=self.folder, capture_output=True, check=False, **unprivileged())
             self.assertEqual(ran.returncode, status, (words, ran.stderr))
         self.assertIn(b"cannot lock the folder of drop/store: Permission denied", ran.stderr)
@@ -388,7 +389,7 @@ class Outputs(Case):
         os.chmod(self.path(""), 0o777)
         os.chmod(self.path("store"), 0o666)
         before = self.look()
-        ran = subprocess.run([program, "load", "store", "key", "package", "XA", "B"], cwd=self.folder,
+        ran = subprocess.run([program, "load", "store", "key", "package", *DEVICE], cwd=self.folder,
                              capture_output=True, check=False, **unprivileged())
         self.assertEqual((ran.returncode, ran.stdout), (FILE_TROUBLE, b""))
         self.assertIn(b"cannot write store: its owner cannot be kept, so that only its owner can write it: ",
@@ -398,14 +399,14 @@ class Outputs(Case):
 
 class Together(Case):
     def test_loads_at_the_same_time_lose_nothing(self):
-        pairs = [("X" + letter, of) for letter in "ABCD" for of in "ABCD"]
+        lines = [line_of(*triple) for triple in itertools.product(("XA", "XB"), "ABCD", (50, 60))]
         self.store()
-        names = {pair: self.package(line_of(*pair), "-".join(pair)) for pair in pairs}
-        words = [[PROGRAM, "load", "store", "key", name, *pair] for pair, name in names.items()]
+        names = {line: self.package(line, "-".join(device_of(line))) for line in lines}
+        words = [[PROGRAM, "load", "store", "key", name, *device_of(line)] for line, name in names.items()]
         runs = [subprocess.Popen(one, cwd=self.folder, stdout=subprocess.DEVNULL) for one in words]
         self.assertEqual([run.wait(60) for run in runs], [0] * 16)
-        for pair in pairs:
-            self.assertEqual(self.done("lookup", "store", *pair), line_of(*pair))
+        for line in lines:
+            self.assertEqual(self.done("lookup", "store", *device_of(line)), line)
 
 
 def memory(process):
@@ -585,7 +586,7 @@ class Secrets(Memory):
                 ["sign", "long", "line", "-"], ["sign", "private", "line", "-", *given, "private"],
                 ["sign", "private", "line", "-", *given, "long"],
                 ["sign", "private", "line", "-", *given, "master"],
-                ["verify", "private", "package"], ["verify", "key", "private"], ["lookup", "private", "XA", "B"],
+                ["verify", "private", "package"], ["verify", "key", "private"], ["lookup", "private", *DEVICE],
                 ["show", "long"], ["show", "private"], ["show", "master"], ["preview", "private"])
 
     def check_not_said(self, seeds, said, words):

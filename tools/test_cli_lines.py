@@ -2,6 +2,7 @@
 thousands of lines that are wrong in one way or in several; and what `preview` says of the lines that it skips."""
 
 import base64
+import itertools
 import os
 import random
 import re
@@ -10,10 +11,12 @@ import struct
 import subprocess
 import tempfile
 
-from cli_case import (ARCHIVE, BAD_LINE, LEAST_LINE, LINE, LINE_77, LINE_C, LONGEST, LONGEST_RATE, MOST_LINE, PREVIEW,
-                      RATE_LINE, RIVALS, ROOT, SHORTEST, SHORTEST_RATE, Case, line_of)
+from cli_case import (ARCHIVE, BAD_LINE, LEAST_LINE, LINE, LINE_60, LINE_77, LINE_C, LONGEST, LONGEST_RATE, MOST_LINE,
+                      PREVIEW, RATE_LINE, RIVALS, ROOT, SHORTEST, SHORTEST_RATE, Case, line_of)
 
+# Lines that fill a store: of as many countries and classes, and of both hertz of half as many.
 SIXTEEN = b"".join(line_of("X" + country, letter) for country in "ABCD" for letter in "ABCD")
+BOTH_HERTZ = b"".join(line_of(*triple) for triple in itertools.product(("XA", "XB"), "ABCD", (50, 60)))
 MOST = 65536
 
 WHOLE = rb"0|[1-9][0-9]*"
@@ -479,8 +482,8 @@ class Explain(Case):
 
 
 def follow(text):
-    """What the preview stores and what it skips: for each pair its serial and the line that it came from; the number of
-    lines; for each that is skipped its number and why."""
+    """What the preview stores and what it skips: for each country, class and hertz the serial and the line that it came
+    from; the number of lines; for each that is skipped its number and why."""
     lines = text.split(b"\n")
     unfinished = lines.pop()
     rows, skipped = {}, []
@@ -489,14 +492,15 @@ def follow(text):
         if line == b"\n":
             why = "empty"
         elif why == 0:
-            _, country, letter, serial = line.split(b",")[:4]
-            pair, older = (country, letter), rows.get((country, letter))
+            _, country, letter, serial, _, hertz = line.decode().split(",")[:6]
+            triple = country, letter, hertz
+            older = rows.get(triple)
             if older and int(serial) <= older[0]:
-                why = (int(serial), *older, *(part.decode() for part in pair))
+                why = (int(serial), *older, *triple)
             elif not older and len(rows) == 16:
                 why = 8
             else:
-                rows[pair] = int(serial), number
+                rows[triple] = int(serial), number
         if why != 0:
             skipped.append((number, why))
     if unfinished:
@@ -508,11 +512,11 @@ def reason(why, line):
     """The first line of the words for it; for a rule that a line breaks, how they begin."""
     words = {"empty": "  it is empty\n", "unfinished": "  it is unfinished: the line feed at the end is missing\n",
              1: f"  it has {len(line)} bytes with its line feed; it must have 42 to 84\n", 5: "  ",
-             8: "  16 other pairs of country and class are stored already\n"}
+             8: "  16 other triples of country, class and hertz are stored already\n"}
     if why in words:
         return words[why]
-    return ("  its serial, {}, is not greater than {}, which line {} has for the same country and class, {} and {}\n"
-            .format(*why))
+    return ("  its serial, {}, is not greater than {}, which line {} has for the same country, class and hertz, {}, {} "
+            "and {}\n".format(*why))
 
 
 class Skipped(Case):
@@ -527,9 +531,9 @@ class Skipped(Case):
             proved = subprocess.run([PREVIEW], input=text, stdout=subprocess.PIPE, check=True).stdout
             self.assertEqual(sorted(ran.stdout.splitlines()), sorted(proved.splitlines()))
         listed = ran.stdout.decode().split("\n")
-        self.assertEqual((listed[0], listed[-1]), ("COUNTRY,CLASS,SERIAL", ""))
-        self.assertEqual(sorted(listed[1:-1]), sorted(f"{country.decode()},{letter.decode()},{serial}"
-                                                      for (country, letter), (serial, _) in rows.items()))
+        self.assertEqual((listed[0], listed[-1]), ("COUNTRY,CLASS,HERTZ,SERIAL", ""))
+        self.assertEqual(sorted(listed[1:-1]), sorted(",".join((*triple, str(serial)))
+                                                      for triple, (serial, _) in rows.items()))
         if not skipped:
             self.assertEqual(said, "")
             return said
@@ -541,7 +545,8 @@ class Skipped(Case):
     def test_silence(self):
         for text in (b"", LINE, LINE + LINE_C, LINE + RATE_LINE, LINE_77, LONGEST_RATE,
                      b"".join(line_of(serial=serial) for serial in range(1, 1000)),
-                     SIXTEEN + line_of(serial=13), SIXTEEN + RATE_LINE):
+                     SIXTEEN + line_of(serial=13), SIXTEEN + RATE_LINE, LINE + LINE_60, LINE_60 + LINE,
+                     BOTH_HERTZ + line_of(serial=13) + line_of(hertz=60, serial=13)):
             self.assertEqual(self.said(text), "")
             self.done("preview", stdin=text)
 
@@ -556,7 +561,7 @@ class Skipped(Case):
 
     def test_length(self):
         other = f"  {NO_LINE}\n"
-        for line, cause in ((b"COUNTRY,CLASS,SERIAL\n", other), (b"x" * 100 + b"\n", other),
+        for line, cause in ((b"COUNTRY,CLASS,HERTZ,SERIAL\n", other), (b"x" * 100 + b"\n", other),
                             (b"GP1,XA,X\n", '  field 3, class, is "X"; it must be A (100 to 139 V), '),
                             (b"\xff\xfeG\0P\0001\0\n", "  a byte order mark of UTF-16 stands in front; ")):
             self.assertIn(cause, self.said(LINE + line + LINE_C))
@@ -570,7 +575,7 @@ class Skipped(Case):
             self.assertEqual(self.said(text), "  it is unfinished: the line feed at the end is missing\n")
 
     def test_older_serial(self):
-        last = "which line 3 has for the same country and class, XA and B\n"
+        last = "which line 3 has for the same country, class and hertz, XA, B and 50\n"
         for serial in (1, 12, 13):
             said = self.said(line_of(serial=12) + LINE_C + line_of(serial=13) + line_of(serial=serial))
             self.assertEqual(said, f"  its serial, {serial}, is not greater than 13, {last}")
@@ -578,19 +583,31 @@ class Skipped(Case):
         said = self.said(line_of(serial=most) + line_of(serial=most))
         self.assertIn(f"  its serial, {most}, is not greater than {most}, which line 1 has ", said)
 
-    def test_seventeenth_pair(self):
+    def test_serials_of_the_other_hertz_do_not_count(self):
+        for hertz, other in ((50, 60), (60, 50)):
+            text = line_of(hertz=hertz, serial=12) + line_of(hertz=other, serial=1)
+            self.assertEqual(self.said(text + line_of(hertz=other, serial=2)), "")
+            last = f"which line 2 has for the same country, class and hertz, XA, B and {other}\n"
+            said = self.said(text + line_of(hertz=other, serial=1))
+            self.assertEqual(said, f"  its serial, 1, is not greater than 1, {last}")
+
+    def test_seventeenth_triple(self):
+        """Also where it is the other hertz of a country and class that is stored."""
+        full = "  16 other triples of country, class and hertz are stored already\n"
         for text in (line_of("XE"), line_of("XE") + BAD_LINE, line_of(serial=13) + line_of("YA")):
-            self.assertEqual(self.said(SIXTEEN + text), "  16 other pairs of country and class are stored already\n")
+            for sixteen in (SIXTEEN, BOTH_HERTZ):
+                self.assertEqual(self.said(sixteen + text), full)
+        self.assertEqual(self.said(SIXTEEN + line_of(hertz=60, serial=99)), full)
 
     def test_random_lines(self):
         draw, reasons = random.Random(21), set()
         others = [b"\n", BAD_LINE, LINE[1:], b"x\n", LINE[:-1] + b"\r\n", line_of(rate=99), b"GP2" + LINE[3:]]
         for _ in range(150):
-            pairs, lines = draw.choice((1, 4, 17, 40)), []
+            triples, lines = draw.choice((1, 2, 17, 40, 100)), []
             for _ in range(draw.choice((3, 20, 60))):
-                pair = draw.randrange(pairs)
-                good = line_of("X" + chr(65 + pair // 4), "ABCD"[pair % 4], draw.randint(len(lines) + 1, 70),
-                               draw.choice((None, 100, 10000)))
+                triple = draw.randrange(triples)
+                good = line_of("X" + chr(65 + triple // 8), "ABCD"[triple // 2 % 4], (50, 60)[triple % 2],
+                               draw.randint(len(lines) + 1, 70), draw.choice((None, 100, 10000)))
                 lines.append(good if draw.random() < 0.97 else draw.choice(others))
             text = b"".join(lines)[:-draw.choice((1, 1000)) if draw.random() < 0.2 else None]
             self.said(text)

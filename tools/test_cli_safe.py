@@ -13,9 +13,9 @@ import subprocess
 import threading
 import time
 
-from cli_case import (ARCHIVE, CATEGORIES, FIFTH, FILE_TROUBLE, FIRST, GIVEN, IMAGE, KINDS, LINE, LINE_77, LINE_C,
-                      NO_RANDOM_BYTES, PRIVATE, PROGRAM, ROOT, SALT, SELF_CHECK_FAILED, SIGNATURE, STORE, WRONG_USAGE,
-                      Case, fingerprint, line_of, sealed, shake)
+from cli_case import (ARCHIVE, CATEGORIES, DEVICE, FIFTH, FILE_TROUBLE, FIRST, GIVEN, IMAGE, KINDS, LINE, LINE_77,
+                      LINE_C, NO_RANDOM_BYTES, PRIVATE, PROGRAM, ROOT, SALT, SELF_CHECK_FAILED, SIGNATURE, STORE,
+                      WRONG_USAGE, Case, fingerprint, line_of, sealed, shake)
 from test_cli_files import HIDDEN, NOBODY, READS_INPUT, WRITES_OUTPUT, Memory, call_of, hidden, wait_for
 
 EMPTY = sealed(bytes(IMAGE))
@@ -474,13 +474,13 @@ class Faults(Planted):
             self.assertEqual(self.get(name), wanted)
             self.assertEqual(self.warned("sign", "private", "line", "-", *GIVEN, **parts)[0], wanted)
             self.done("verify", "key", name, **parts)
-            self.done("load", self.store(name=f"store{size}"), "key", name, "XA", "B", **parts)
+            self.done("load", self.store(name=f"store{size}"), "key", name, *DEVICE, **parts)
 
     def test_file_that_the_disk_did_not_take(self):
         """It is known only when the file is made to last, or closed."""
         self.package(), self.store()
         for call in ("fsync", "close"):
-            for words in (["sign", "private", "line", "out"], ["load", "store", "key", "package", "XA", "B"],
+            for words in (["sign", "private", "line", "out"], ["load", "store", "key", "package", *DEVICE],
                           ["new-key", "fresh", "out"]):
                 said = self.troubled(FILE_TROUBLE, *words, planted={"FAILS": call})
                 self.assertIn("Input/output error", said)
@@ -488,7 +488,7 @@ class Faults(Planted):
     def test_file_system_without_locks(self):
         """Only a load, which changes what is there, must have the lock; and left-overs may be another run's then."""
         self.package(), self.store(), self.put(UNFINISHED + "abc123", b"being written")
-        said = self.troubled(FILE_TROUBLE, "load", "store", "key", "package", "XA", "B", planted={"FAILS": "flock"})
+        said = self.troubled(FILE_TROUBLE, "load", "store", "key", "package", *DEVICE, planted={"FAILS": "flock"})
         self.assertEqual(said, "gridprofile: a store must be in a folder that can be read and locked\n"
                                "gridprofile: cannot lock the folder of store: Input/output error\n")
         self.done("sign", "private", "line", "out", planted={"FAILS": "flock"})
@@ -753,7 +753,7 @@ class Terminal(Case):
             self.assertIn(self.SHOWN, said, words)
             self.assertNotRegex(said, rb"[\x00-\x09\x0b-\x1f\x7f]|\xc2[\x80-\x9f]")
         os.rename(self.path("store"), self.path(os.fsdecode(self.NAME)))
-        self.assertIn(b"the store " + self.SHOWN + b" is damaged", self.run_in("lookup", self.NAME, "XA", "B").stderr)
+        self.assertIn(b"the store " + self.SHOWN + b" is damaged", self.run_in("lookup", self.NAME, *DEVICE).stderr)
 
     def test_lines_are_said_whole(self):
         """So that what runs beside each other say is not mixed within a line."""
@@ -779,7 +779,7 @@ class Locks(Case):
 
     def writers(self):
         self.package(), self.store()
-        return (["load", "store", "key", "package", "XA", "B"], ["key", "private", "out"], ["new-store", "empty"],
+        return (["load", "store", "key", "package", *DEVICE], ["key", "private", "out"], ["new-store", "empty"],
                 ["sign", "private", "line", "signed"], ["new-key", "fresh", "fresh.key"])
 
     def test_lock_is_waited_for_so_long(self):
@@ -800,7 +800,7 @@ class Locks(Case):
         self.lock(3)
         _, said = self.warned(*writers[0])
         self.assertEqual(said.count("waiting"), 1)
-        self.assertEqual(self.done("lookup", "store", "XA", "B"), LINE)
+        self.assertEqual(self.done("lookup", "store", *DEVICE), LINE)
         self.lock(0.2)
         self.done(*writers[1])
 
@@ -819,7 +819,7 @@ class Locks(Case):
     def test_store_that_leads_elsewhere_meanwhile(self):
         self.store(LINE_C, name="a"), self.store(name="b")
         os.symlink("a", self.path("current"))
-        run = self.waits("load", "current", "key", "package", "XA", "B")
+        run = self.waits("load", "current", "key", "package", *DEVICE)
         next(run)
         before = self.get("a"), self.get("b")
         os.remove(self.path("current")), os.symlink("b", self.path("current"))
@@ -843,7 +843,7 @@ class Locks(Case):
             self.put(name + "/store", EMPTY)
         folder = os.open(self.path("folder"), os.O_RDONLY)
         fcntl.flock(folder, fcntl.LOCK_EX)
-        process = subprocess.Popen([PROGRAM, "load", "folder/store", "key", "package", "XA", "B"], cwd=self.folder,
+        process = subprocess.Popen([PROGRAM, "load", "folder/store", "key", "package", *DEVICE], cwd=self.folder,
                                    stdout=subprocess.PIPE, stderr=subprocess.PIPE)
         self.assertIn(b"waiting", process.stderr.readline())
         os.rename(self.path("folder"), self.path("old")), os.rename(self.path("new"), self.path("folder"))
@@ -863,7 +863,7 @@ class Locks(Case):
         self.assertNotIn("fresh", self.names())
 
     def test_permissions_that_change_meanwhile_count(self):
-        run = self.waits("load", "store", "key", "package", "XA", "B")
+        run = self.waits("load", "store", "key", "package", *DEVICE)
         next(run)
         os.chmod(self.path("store"), 0o600)
         self.assertEqual(next(run)[0], 0)
@@ -871,13 +871,13 @@ class Locks(Case):
 
     def test_load_waits_for_its_package_without_the_lock(self):
         self.package(), self.store()
-        process = subprocess.Popen([PROGRAM, "load", "store", "key", "-", "XA", "B"], cwd=self.folder,
+        process = subprocess.Popen([PROGRAM, "load", "store", "key", "-", *DEVICE], cwd=self.folder,
                                    stdin=subprocess.PIPE, stdout=subprocess.PIPE)
         wait_for(lambda: call_of(process) == READS_INPUT)
         self.done("new-store", "other", "--wait", "0")
         process.communicate(self.get("package"), timeout=60)
         self.assertEqual(process.returncode, 0)
-        self.assertEqual(self.done("lookup", "store", "XA", "B"), LINE)
+        self.assertEqual(self.done("lookup", "store", *DEVICE), LINE)
 
     def test_lock_is_shared_with_nobody(self):
         self.put("private", PRIVATE)
@@ -887,7 +887,7 @@ class Locks(Case):
     def test_readers_do_not_wait(self):
         self.store(LINE)
         self.lock()
-        self.assertEqual(self.done("lookup", "store", "XA", "B"), LINE)
+        self.assertEqual(self.done("lookup", "store", *DEVICE), LINE)
         self.done("show", "store")
 
     def test_only_left_over_files_are_removed(self):
@@ -928,10 +928,10 @@ class SmallStack(Case):
             self.done("sign", "private", "line", name + "package", *option, **small)
             self.done("verify", "key", name + "package", *option, **small)
             self.done("new-store", name + "store", **small)
-            self.done("load", name + "store", "key", name + "package", "XA", "B", *option, **small)
-            self.assertEqual(self.done("lookup", name + "store", "XA", "B", **small), LINE)
+            self.done("load", name + "store", "key", name + "package", *DEVICE, *option, **small)
+            self.assertEqual(self.done("lookup", name + "store", *DEVICE, **small), LINE)
             self.done("show", name + "store", **small)
-            self.assertIn(b"XA,B,12", self.done("preview", "line", **small))
+            self.assertIn(b"\nXA,B,50,12\n", self.done("preview", "line", **small))
 
 
 class Many(Case):

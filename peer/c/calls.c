@@ -64,6 +64,10 @@ static const char line[] = "GP1,XA,B,12,230,50,1150,100,800,1500,1500,100,-2500,
 static const char rate_line[] =
     "GP2,XA,B,13,230,50,1150,100,800,1500,1500,100,-2500,100,2000,500\n";
 
+/* The same country and class at the other hertz, with a lower serial. */
+static const char other_hertz_line[] =
+    "GP1,XA,B,1,230,60,1150,100,800,1500,1500,100,-2500,100\n";
+
 /* A line read and written again: its image has this serial, and ends with this rate point. */
 static void one_line(const char *prefix, const char *text, size_t text_len, uint8_t serial,
                      const uint8_t *rate)
@@ -89,13 +93,13 @@ static void lines(const char *prefix)
     one_line(prefix, rate_line, sizeof rate_line - 1, 13, present);
 }
 
-/* The listing of two lines, one of each kind, in either order. */
+/* The listing of two lines, one of each kind and of each hertz, in either order. */
 static void listing(const char *prefix)
 {
     static const char input[] = "GP1,XA,B,12,230,50,1150,100,800,1500,1500,100,-2500,100\n"
-                                "GP2,XA,C,5,400,50,1100,200,850,1500,1500,100,-2500,100,2000,500\n";
-    static const char one[] = "COUNTRY,CLASS,SERIAL\nXA,B,12\nXA,C,5\n";
-    static const char other[] = "COUNTRY,CLASS,SERIAL\nXA,C,5\nXA,B,12\n";
+                                "GP2,XA,B,5,230,60,1100,200,850,1500,1500,100,-2500,100,2000,500\n";
+    static const char one[] = "COUNTRY,CLASS,HERTZ,SERIAL\nXA,B,50,12\nXA,B,60,5\n";
+    static const char other[] = "COUNTRY,CLASS,HERTZ,SERIAL\nXA,B,60,5\nXA,B,50,12\n";
     uint8_t out[GRIDPROFILE_LISTING_BYTES];
     size_t length = 0;
     int answer = gridprofile_preview((const uint8_t *)input, sizeof input - 1, out, sizeof out, &length);
@@ -126,7 +130,7 @@ struct category {
     uint8_t (*make_package)(const uint8_t *, size_t, const uint8_t *, size_t, const uint8_t *,
                             size_t, const uint8_t *, size_t, uint8_t *, size_t, size_t *);
     uint8_t (*load)(uint8_t *, size_t, const uint8_t *, size_t, const uint8_t *, size_t,
-                    const uint8_t *, size_t, uint32_t);
+                    const uint8_t *, size_t, uint32_t, uint32_t);
 };
 
 /* The category whose constants and functions begin so. */
@@ -227,41 +231,70 @@ static void signing(const struct category *c)
 
 static const uint8_t country[2] = {'X', 'A'};
 
-/* The package of a line made, loaded, looked up, and refused the second time. */
-static void load_line(const struct category *c, uint8_t *store, const char *text, size_t text_len)
+/* A load of the package of this length, on a device of class B. */
+static void expect_load(const struct category *c, const char *name, uint8_t *store, size_t length,
+                        uint32_t hertz, int wanted)
 {
-    const uint8_t *wanted = (const uint8_t *)text;
-    uint8_t out[GRIDPROFILE_LINE_MAX_BYTES];
-    size_t length = 0, written = 0;
-    int answer = c->make_package(zeros, c->private_seed, zeros, c->master_seed, zeros, c->salt,
-                                 wanted, text_len, package, c->package_max, &length);
-    expect(c->prefix, "make_package", answer, GRIDPROFILE_DONE, package, zeros, c->salt);
-    expect_length(length, c->signature + text_len);
-    answer = c->load(store, GRIDPROFILE_STORE_IMAGE_BYTES, key, c->key, package, length, country, 2,
-                     'B');
-    expect(c->prefix, "load", answer, GRIDPROFILE_DONE, key, key, 0);
-    answer = gridprofile_lookup(store, GRIDPROFILE_STORE_IMAGE_BYTES, country, 2, 'B', out,
-                                sizeof out, &written);
-    expect("gridprofile_", "lookup", answer, GRIDPROFILE_DONE, out, wanted, text_len);
-    expect_length(written, text_len);
-    answer = c->load(store, GRIDPROFILE_STORE_IMAGE_BYTES, key, c->key, package, length, country, 2,
-                     'B');
-    expect(c->prefix, "load again", answer, GRIDPROFILE_OLD_SERIAL, key, key, 0);
+    int answer = c->load(store, GRIDPROFILE_STORE_IMAGE_BYTES, key, c->key, package, length,
+                         country, sizeof country, 'B', hertz);
+    expect(c->prefix, name, answer, wanted, key, key, 0);
 }
 
-/* The second line replaces the first, and nothing is stored for another class. */
+/* A lookup that gives this line. */
+static void expect_line(const uint8_t *store, uint32_t hertz, const char *text, size_t text_len)
+{
+    uint8_t out[GRIDPROFILE_LINE_MAX_BYTES];
+    size_t written = 0;
+    int answer = gridprofile_lookup(store, GRIDPROFILE_STORE_IMAGE_BYTES, country, sizeof country,
+                                    'B', hertz, out, sizeof out, &written);
+    expect("gridprofile_", "lookup", answer, GRIDPROFILE_DONE, out, (const uint8_t *)text,
+           text_len);
+    expect_length(written, text_len);
+}
+
+/* A lookup that gives nothing. */
+static void expect_none(const char *name, const uint8_t *store, uint32_t class_letter,
+                        uint32_t hertz, int wanted)
+{
+    uint8_t out[GRIDPROFILE_LINE_MAX_BYTES] = {0};
+    size_t written = 0;
+    int answer = gridprofile_lookup(store, GRIDPROFILE_STORE_IMAGE_BYTES, country, sizeof country,
+                                    class_letter, hertz, out, sizeof out, &written);
+    expect("gridprofile_", name, answer, wanted, out, zeros, sizeof out);
+    expect_length(written, 0);
+}
+
+/* The package of a line made, refused on a device of other hertz and on none that there is, loaded,
+ * looked up, and refused the second time. */
+static void load_line(const struct category *c, uint8_t *store, uint32_t hertz, const char *text,
+                      size_t text_len)
+{
+    size_t length = 0;
+    int answer = c->make_package(zeros, c->private_seed, zeros, c->master_seed, zeros, c->salt,
+                                 (const uint8_t *)text, text_len, package, c->package_max, &length);
+    expect(c->prefix, "make_package", answer, GRIDPROFILE_DONE, package, zeros, c->salt);
+    expect_length(length, c->signature + text_len);
+    expect_load(c, "load at other hertz", store, length, hertz == 50 ? 60 : 50,
+                GRIDPROFILE_OTHER_DEVICE);
+    expect_load(c, "load at no hertz", store, length, hertz + 65536, GRIDPROFILE_BAD_DEVICE);
+    expect_load(c, "load", store, length, hertz, GRIDPROFILE_DONE);
+    expect_line(store, hertz, text, text_len);
+    expect_load(c, "load again", store, length, hertz, GRIDPROFILE_OLD_SERIAL);
+}
+
+/* The second line replaces the first, and the third stands beside it; nothing is stored for another
+ * class, nor for the other hertz before. */
 static void loading(const struct category *c)
 {
-    uint8_t store[GRIDPROFILE_STORE_IMAGE_BYTES] = {0}, out[GRIDPROFILE_LINE_MAX_BYTES] = {0};
-    size_t written = 0;
+    uint8_t store[GRIDPROFILE_STORE_IMAGE_BYTES] = {0};
     (void)c->make_key(zeros, c->private_seed, key, c->key);
-    load_line(c, store, line, sizeof line - 1);
-    load_line(c, store, rate_line, sizeof rate_line - 1);
-    int answer =
-        gridprofile_lookup(store, sizeof store, country, 2, 'C', out, sizeof out, &written);
-    expect("gridprofile_", "lookup of another class", answer, GRIDPROFILE_NOT_STORED, out, zeros,
-           sizeof out);
-    expect_length(written, 0);
+    load_line(c, store, 50, line, sizeof line - 1);
+    load_line(c, store, 50, rate_line, sizeof rate_line - 1);
+    expect_none("lookup of another class", store, 'C', 50, GRIDPROFILE_NOT_STORED);
+    expect_none("lookup of other hertz", store, 'B', 60, GRIDPROFILE_NOT_STORED);
+    expect_none("lookup of no hertz", store, 'B', 16, GRIDPROFILE_BAD_DEVICE);
+    load_line(c, store, 60, other_hertz_line, sizeof other_hertz_line - 1);
+    expect_line(store, 50, rate_line, sizeof rate_line - 1);
 }
 
 int main(void)

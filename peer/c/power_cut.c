@@ -166,7 +166,7 @@ static const char *const lines[] = {
     "GP1,XA,B,12,230,50,1150,100,800,1500,1500,100,-2500,100\n",
     "GP1,XA,C,5,400,50,1100,200,850,1500,1500,100,-2500,100\n",
     "GP2,XA,B,13,230,50,1200,100,800,1500,1500,100,-2500,100,2000,500\n",
-    "GP1,QZ,D,1,690,60,1150,100,800,1500,1500,100,-2500,100\n",
+    "GP1,XA,B,1,230,60,1150,100,800,1500,1500,100,-2500,100\n",
 };
 
 /* A device to begin with, the store that it holds, and that after one more load; after each of
@@ -179,12 +179,14 @@ struct start {
 #define STARTS 3
 static struct start starts[STARTS];
 
-/* The store that loading the package of a line makes of another one. */
+/* The store that loading the package of a line makes of another one, on the device that its image
+ * names. */
 static void load(const uint8_t *store, size_t number, uint8_t *made)
 {
     static uint8_t package[GRIDPROFILE_PACKAGE_MAX_BYTES];
     const uint8_t *line = (const uint8_t *)lines[number];
     uint8_t master[GRIDPROFILE_MASTER_SEED_BYTES], salt[GRIDPROFILE_SALT_BYTES];
+    uint8_t profile[GRIDPROFILE_PROFILE_IMAGE_BYTES];
     size_t length = 0;
     memset(master, (int)number, sizeof master);
     memset(salt, (int)number + 100, sizeof salt);
@@ -192,9 +194,14 @@ static void load(const uint8_t *store, size_t number, uint8_t *made)
                                     sizeof salt, line, strlen(lines[number]), package,
                                     sizeof package, &length) == GRIDPROFILE_DONE,
            "a package is made");
-    memmove(made, store, IMAGE);
-    expect(gridprofile_load(made, IMAGE, key, sizeof key, package, length, line + 4, 2, line[7]) ==
+    expect(gridprofile_read_line(line, strlen(lines[number]), profile, sizeof profile) ==
                GRIDPROFILE_DONE,
+           "a line is read");
+    memmove(made, store, IMAGE);
+    expect(gridprofile_load(made, IMAGE, key, sizeof key, package, length,
+                            profile + GRIDPROFILE_COUNTRY_OFFSET, 2,
+                            profile[GRIDPROFILE_CLASS_OFFSET],
+                            profile[GRIDPROFILE_HERTZ_OFFSET]) == GRIDPROFILE_DONE,
            "a package is loaded");
 }
 

@@ -19,9 +19,10 @@ static const char usual[] = "GP1,XA,B,12,230,50,1150,100,800,1500,1500,100,-2500
 static const char longest[] = "GP2,XA,D,4294967295,1000,60,1500,60000,999,60000,5000,60000,-5000,60000,10000,60000\n";
 _Static_assert(sizeof longest - 1 == GRIDPROFILE_LINE_MAX_BYTES, "no line is longer");
 
-/* The line that the jobs run with. Both are for the country `XA`, and byte 7 of a line is its class. */
+/* The line that the jobs run with, and its hertz. Both are for the country `XA`, and byte 7 of a line is its class. */
 static const uint8_t *line;
 static size_t line_len;
+static uint32_t hertz;
 static const uint8_t country[2] = {'X', 'A'};
 #define CLASS line[7]
 static uint8_t message[GRIDPROFILE_LINE_MAX_BYTES], profile[GRIDPROFILE_PROFILE_IMAGE_BYTES];
@@ -76,7 +77,7 @@ BUFFERS(category5_, CATEGORY5_)
        (ALL(c##lent.private_seed), ALL(c##lent.master_seed), ALL(c##lent.salt), line, line_len, ALL(c##lent.package),  \
         &c##lent.package_len))                                                                                         \
     DO(c, load, 0,                                                                                                     \
-       (ALL(c##lent.store), ALL(c##lent.key), c##lent.package, c##lent.package_len, ALL(country), CLASS))
+       (ALL(c##lent.store), ALL(c##lent.key), c##lent.package, c##lent.package_len, ALL(country), CLASS, hertz))
 
 /* Those that no category decides; the lookup is in what the load of category 1 stored. */
 #define OF_NONE(DO)                                                                                                    \
@@ -87,7 +88,7 @@ BUFFERS(category5_, CATEGORY5_)
     DO(, read_line, 0, (line, line_len, ALL(profile)))                                                                 \
     DO(, write_line, 0, (ALL(profile), ALL(found), &length))                                                           \
     DO(, preview, 0, (line, line_len, ALL(listing), &length))                                                          \
-    DO(, lookup, 0, (ALL(lent.store), ALL(country), CLASS, ALL(found), &length))
+    DO(, lookup, 0, (ALL(lent.store), ALL(country), CLASS, hertz, ALL(found), &length))
 
 #define JOB(c, name, answer, call)                                                                                     \
     static void c##name(void)                                                                                          \
@@ -143,10 +144,11 @@ static struct {
 };
 #define JOBS (sizeof jobs / sizeof *jobs)
 
-static void run_all(const char *text)
+static void run_all(const char *text, uint32_t its_hertz)
 {
     line = (const uint8_t *)text;
     line_len = strlen(text);
+    hertz = its_hertz;
     for (size_t at = 0; at < JOBS; at++) {
         size_t bytes = used(jobs[at].job);
         if (bytes > jobs[at].most)
@@ -157,8 +159,8 @@ static void run_all(const char *text)
 int main(void)
 {
     size_t base = used(nothing);
-    run_all(usual);
-    run_all(longest);
+    run_all(usual, 50);
+    run_all(longest, 60);
     for (size_t at = 0; at < JOBS; at++)
         printf("%s %zu\n", jobs[at].name, jobs[at].most - base);
     return 0;

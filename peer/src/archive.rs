@@ -56,6 +56,6 @@ pub fn lookup(store: &[u8], device: &Device, line: &mut [u8], mut length: usize)
     let [(a, b), (c, d)] = [store, device.country].map(|s| (s.as_ptr(), s.len()));
     let (e, f) = (line.as_mut_ptr(), line.len());
     // SAFETY: as above.
-    let answer = unsafe { c::gridprofile_lookup(a, b, c, d, device.class, e, f, &mut length) };
+    let answer = unsafe { c::gridprofile_lookup(a, b, c, d, device.class, device.hertz, e, f, &mut length) };
     (answer, length)
 }

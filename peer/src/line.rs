@@ -10,7 +10,8 @@ pub const LONGEST: usize = 84;
 /// Bytes of an image.
 pub const IMAGE: usize = 76;
 
-/// Where the rate point stands in an image.
+/// Where the hertz stand in an image, four bytes, and the rate point.
+pub const HERTZ: usize = 12;
 pub const RATE: usize = 64;
 
 /// What a trip point's limit is measured in.
@@ -51,6 +52,9 @@ pub struct Profile {
     /// A line with this point is a `GP2` line, one without it a `GP1` line.
     pub rate: Option<Rate>,
 }
+
+/// The hertz that a grid has.
+pub const NOMINAL_HERTZ: [u32; 2] = [50, 60];
 
 pub const DELAYS: RangeInclusive<u32> = 20..=60_000;
 
@@ -93,7 +97,7 @@ impl Profile {
         is_country(&self.country)
             && self.serial >= 1
             && class_of(self.volts) == Some(self.class)
-            && [50, 60].contains(&self.hertz)
+            && NOMINAL_HERTZ.contains(&self.hertz)
             && self.trips.iter().zip(&TRIPS).all(|(trip, rule)| trip.obeys(rule))
             && self.rate.iter().all(Rate::is_valid)
     }
@@ -170,7 +174,7 @@ pub fn meaning(image: &[u8; IMAGE]) -> Profile {
         class: image[3],
         serial: word(4),
         volts: word(8),
-        hertz: word(12),
+        hertz: word(HERTZ),
         trips: [trip(16), trip(28), trip(40), trip(52)],
         rate: (word(RATE) != 0).then(|| Rate { limit: word(RATE + 4), delay: word(RATE + 8) }),
     }

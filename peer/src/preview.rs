@@ -1,17 +1,22 @@
 //! The listing of what a device would hold after the lines of an input.
 
-use crate::line::read_line;
+use crate::line::{read_line, Profile};
 use crate::refusal::{answer_length, demand, BAD_SIZE};
 use crate::store::{Device, Store, CAPACITY};
 
-pub const HEADER: &str = "COUNTRY,CLASS,SERIAL\n";
+pub const HEADER: &str = "COUNTRY,CLASS,HERTZ,SERIAL\n";
 pub const TOO_LONG: &str = "too long\n";
 
 /// The longest input that is looked at.
 pub const LONGEST_INPUT: usize = 65_536;
 
-/// The header and a row of at most 16 bytes for each profile.
-pub const LISTING: usize = HEADER.len() + 16 * CAPACITY;
+/// The header and a row of at most 19 bytes for each profile.
+pub const LISTING: usize = HEADER.len() + 19 * CAPACITY;
+
+fn row(profile: &Profile) -> String {
+    let Profile { country: [a, b], class, hertz, serial, .. } = *profile;
+    format!("{}{},{},{hertz},{serial}\n", char::from(a), char::from(b), char::from(class))
+}
 
 /// The listing, its rows sorted: their order is open.
 pub fn listing(input: &[u8]) -> String {
@@ -21,13 +26,10 @@ pub fn listing(input: &[u8]) -> String {
     let mut store = Store::default();
     for piece in input.split_inclusive(|&byte| byte == b'\n').filter(|piece| piece.ends_with(b"\n")) {
         if let Ok(profile) = read_line(piece) {
-            let own = Device { country: &profile.country, class: u32::from(profile.class) };
-            let _ = store.put(profile, &own); // a refused line is skipped
+            let _ = store.put(profile, &Device::of(&profile)); // a refused line is skipped
         }
     }
-    let row =
-        |[a, b]: [u8; 2], class, serial| format!("{}{},{},{serial}\n", char::from(a), char::from(b), char::from(class));
-    let rows = store.sorted().iter().map(|p| row(p.country, p.class, p.serial)).collect::<String>();
+    let rows = store.sorted().iter().map(row).collect::<String>();
     in_order(&(HEADER.to_string() + &rows))
 }
 

@@ -1,6 +1,9 @@
 //! The profiles that a device holds, packages, and the loader.
 
-use crate::line::{class_of, image, is_country, meaning, read_line, write_line, Profile, IMAGE, LONGEST, SHORTEST};
+use crate::line::{
+    class_of, image, is_country, meaning, read_line, write_line, Profile, HERTZ, IMAGE, LONGEST, NOMINAL_HERTZ,
+    SHORTEST,
+};
 use crate::refusal::{
     answer_length, demand, Refusal, BAD_DEVICE, BAD_SIZE, NOT_STORED, OLD_SERIAL, OTHER_DEVICE, STORE_FULL,
 };
@@ -19,21 +22,28 @@ pub const STORE: usize = CAPACITY * IMAGE;
 pub struct Device<'a> {
     pub country: &'a [u8],
     pub class: u32,
+    pub hertz: u32,
 }
 
-impl Device<'_> {
+impl<'a> Device<'a> {
+    /// The device that a profile is for.
+    pub fn of(profile: &'a Profile) -> Device<'a> {
+        Device { country: &profile.country, class: u32::from(profile.class), hertz: profile.hertz }
+    }
+
     fn exists(&self) -> Result<(), Refusal> {
         let classes = [100, 140, 260, 520].map(|volts| class_of(volts).map(u32::from));
-        demand(is_country(self.country) && classes.contains(&Some(self.class)), BAD_DEVICE)
+        let has_class = classes.contains(&Some(self.class));
+        demand(is_country(self.country) && has_class && NOMINAL_HERTZ.contains(&self.hertz), BAD_DEVICE)
     }
 
     fn fits(&self, profile: &Profile) -> bool {
-        profile.country == self.country && u32::from(profile.class) == self.class
+        profile.country == self.country && u32::from(profile.class) == self.class && profile.hertz == self.hertz
     }
 }
 
-/// At most one profile for each country and class, in no particular order. An image that no load made
-/// may mean several for one pair, of which the first counts.
+/// At most one profile for each triple of country, class and hertz, in no particular order. An image that
+/// no load made may mean several for one triple, of which the first counts.
 #[derive(Clone, Debug, Default)]
 pub struct Store(Vec<Profile>);
 
@@ -142,20 +152,22 @@ pub fn load(s: &Sizes, image: &mut [u8], key: &[u8], package: &[u8], device: &De
     crate::refusal::answer(loaded(), image)
 }
 
-/// Whether just one slot of an image was written, and holds the profile: the first of its pair, or where none is of it
-/// one that was free; which free one is open.
+/// Whether just one slot of an image was written, and holds the profile: the first of its triple, or where none is of
+/// it one that was free; which free one is open.
 pub fn wrote_one_slot(old: &[u8], new: &[u8], profile: &Profile) -> bool {
     let before: Vec<_> = old.chunks_exact(IMAGE).collect();
     let after: Vec<_> = new.chunks_exact(IMAGE).collect();
+    let wanted = image(profile);
     let is_free = |slot: &[u8]| slot[0] == 0;
-    let has_pair = |slot: &[u8]| !is_free(slot) && slot[1..3] == profile.country && slot[3] == profile.class;
+    let triple = |slot: &[u8]| [&slot[1..4], &slot[HERTZ..HERTZ + 4]].concat();
+    let has_triple = |slot: &[u8]| !is_free(slot) && triple(slot) == triple(&wanted);
     let written: Vec<_> = (0..before.len().min(after.len())).filter(|&i| before[i] != after[i]).collect();
     let [i] = written[..] else { return false };
-    let chosen = match before.iter().position(|slot| has_pair(slot)) {
+    let chosen = match before.iter().position(|slot| has_triple(slot)) {
         Some(held) => i == held,
         None => is_free(before[i]),
     };
-    chosen && old.len() == new.len() && after[i] == image(profile)
+    chosen && old.len() == new.len() && after[i] == wanted
 }
 
 /// Writes the line stored for a device: 10, 1, 9; 5 where an image holds what no load stored.

@@ -1,9 +1,10 @@
 /* gridprofile new-store STORE
- * gridprofile load STORE KEY PACKAGE COUNTRY CLASS
- * gridprofile lookup STORE COUNTRY CLASS */
+ * gridprofile load STORE KEY PACKAGE COUNTRY CLASS HERTZ
+ * gridprofile lookup STORE COUNTRY CLASS HERTZ */
 #include "program.h"
 
 #include <inttypes.h>
+#include <stdlib.h>
 #include <string.h>
 
 static uint8_t store[STORE_FILE_BYTES + 1];
@@ -21,10 +22,41 @@ int run_new_store(const struct request *request)
     return status;
 }
 
-/* The number of a class letter, or 0, which is no class, for any other text. */
+/* What a device is set to, as the library takes it. */
+struct device {
+    const uint8_t *country;
+    size_t country_length;
+    uint32_t class_letter, hertz;
+};
+
 static uint32_t class_number(const char *text)
 {
     return strlen(text) == 1 ? (uint8_t)text[0] : 0;
+}
+
+/* A number that is too great for the type is read as the greatest, which is too great here as well. */
+static uint32_t hertz_number(const char *text)
+{
+    unsigned long long value = strtoull(text, NULL, 10);
+    if (text[0] == '0' || text[strspn(text, "0123456789")] != '\0' || value > UINT32_MAX)
+        return 0;
+    return (uint32_t)value;
+}
+
+/* COUNTRY, CLASS and HERTZ. A class is one letter, and hertz are a decimal number without sign, spaces
+ * or leading zeros; any other text is 0, which is no class and no hertz, so that the library refuses it
+ * as it refuses every other setting that does not exist. */
+static struct device read_device(char *const *words)
+{
+    return (struct device){(const uint8_t *)words[0], strlen(words[0]), class_number(words[1]),
+                           hertz_number(words[2])};
+}
+
+static int look_up(const struct device *device, size_t store_length, uint8_t *line, size_t *length)
+{
+    return gridprofile_lookup(store, store_length, device->country, device->country_length,
+                              device->class_letter, device->hertz, line, GRIDPROFILE_LINE_MAX_BYTES,
+                              length);
 }
 
 /* The slot that a load changed, which is one. */
@@ -47,7 +79,7 @@ static void print_accepted(FILE *to, const uint8_t *before, const struct input *
     if (before[slot] != 0)
         fprintf(to, "It replaces serial %" PRIu32 ".\n", serial_of(before + slot));
     else
-        fputs("Nothing was stored for this country and class before.\n", to);
+        fputs("Nothing was stored for this country, class and hertz before.\n", to);
     print_fingerprint(to, key->category, key->bytes);
 }
 
@@ -58,20 +90,19 @@ static uint32_t serial_of_line(const uint8_t *line, size_t length)
     return gridprofile_read_line(line, length, profile, sizeof profile) == 0 ? serial_of(profile) : 0;
 }
 
-static uint32_t stored_serial(const struct request *request)
+static uint32_t stored_serial(const struct device *device)
 {
-    const uint8_t *country = (const uint8_t *)request->arguments[3];
     uint8_t line[GRIDPROFILE_LINE_MAX_BYTES];
     size_t length = 0;
-    (void)gridprofile_lookup(store, GRIDPROFILE_STORE_IMAGE_BYTES, country, 2,
-                             class_number(request->arguments[4]), line, sizeof line, &length);
+    (void)look_up(device, GRIDPROFILE_STORE_IMAGE_BYTES, line, &length);
     return serial_of_line(line, length);
 }
 
-static int refuse_serial(const struct request *request, const struct input *package)
+static int refuse_serial(const struct request *request, const struct device *device,
+                         const struct input *package)
 {
     size_t signature = package->category->signature;
-    uint32_t stored = stored_serial(request);
+    uint32_t stored = stored_serial(device);
     uint32_t serial = serial_of_line(package->bytes + signature, package->length - signature);
     char meaning[96];
     (void)snprintf(meaning, sizeof meaning,
@@ -120,7 +151,7 @@ int run_load(const struct request *request)
         sized_input(category, KEY_SIZE, request->arguments[1], key, sizeof key),
         sized_input(category, PACKAGE_SIZE, request->arguments[2], package, sizeof package),
     };
-    const char *country = request->arguments[3];
+    struct device device = read_device(request->arguments + 3);
     int status = check_streams(request, inputs, COUNT(inputs)), answer;
     if (status == 0)
         status = find_store(&output, request, request->arguments[0]);
@@ -132,10 +163,10 @@ int run_load(const struct request *request)
         return status;
     memcpy(before, store, sizeof before);
     answer = category->load(store, inputs[0].length, key, inputs[1].length, package,
-                            inputs[2].length, (const uint8_t *)country, strlen(country),
-                            class_number(request->arguments[4]));
+                            inputs[2].length, device.country, device.country_length,
+                            device.class_letter, device.hertz);
     if (answer == GRIDPROFILE_OLD_SERIAL)
-        return refuse_serial(request, &inputs[2]);
+        return refuse_serial(request, &device, &inputs[2]);
     if (answer != 0)
         return refused_package(request->command, answer, inputs, COUNT(inputs), &inputs[2]);
     return write_store(&output, before, &inputs[1]);
@@ -144,7 +175,7 @@ int run_load(const struct request *request)
 int run_lookup(const struct request *request)
 {
     struct input inputs[] = {store_input(request->arguments[0], store)};
-    const char *country = request->arguments[1];
+    struct device device = read_device(request->arguments + 1);
     uint8_t line[GRIDPROFILE_LINE_MAX_BYTES];
     size_t length = 0;
     int status = read_inputs(inputs, COUNT(inputs)), answer;
@@ -152,8 +183,7 @@ int run_lookup(const struct request *request)
         status = open_store(&inputs[0]);
     if (status != 0)
         return status;
-    answer = gridprofile_lookup(store, inputs[0].length, (const uint8_t *)country, strlen(country),
-                                class_number(request->arguments[2]), line, sizeof line, &length);
+    answer = look_up(&device, inputs[0].length, line, &length);
     if (answer == GRIDPROFILE_NOT_STORED && check_slots(&inputs[0]) != 0)
         return DAMAGED_STORE;
     if (answer == GRIDPROFILE_BAD_PROFILE)

@@ -4,8 +4,6 @@
 #include <inttypes.h>
 #include <string.h>
 
-enum { PAIR_BYTES = GRIDPROFILE_SERIAL_OFFSET - GRIDPROFILE_COUNTRY_OFFSET };
-
 /* Skipped lines besides those that the library refuses by a number. */
 enum { EMPTY = -1, UNFINISHED = -2 };
 
@@ -21,20 +19,19 @@ struct step {
     size_t number; /* counted from 1 */
     int skipped;   /* 0, a refusal, EMPTY or UNFINISHED */
     uint8_t image[GRIDPROFILE_PROFILE_IMAGE_BYTES];
-    struct stored older; /* under refusal 7, what is stored for the pair */
+    struct stored older; /* under refusal 7, what is stored for the triple */
 };
 
 struct followed {
-    struct stored pairs[GRIDPROFILE_STORE_SLOTS];
+    struct stored triples[GRIDPROFILE_STORE_SLOTS];
     size_t used, lines, skipped;
     struct step first; /* of those skipped */
 };
 
-static size_t find_pair(const struct followed *all, const uint8_t *image)
+static size_t find_triple(const struct followed *all, const uint8_t *image)
 {
     size_t at = 0;
-    while (at < all->used && memcmp(all->pairs[at].image + GRIDPROFILE_COUNTRY_OFFSET,
-                                    image + GRIDPROFILE_COUNTRY_OFFSET, PAIR_BYTES) != 0)
+    while (at < all->used && !is_same_triple(all->triples[at].image, image))
         at++;
     return at;
 }
@@ -42,8 +39,8 @@ static size_t find_pair(const struct followed *all, const uint8_t *image)
 /* Stores a line that was read, or answers why not. */
 static int keep(struct followed *all, struct step *step)
 {
-    size_t at = find_pair(all, step->image);
-    struct stored *slot = &all->pairs[at];
+    size_t at = find_triple(all, step->image);
+    struct stored *slot = &all->triples[at];
     if (at == GRIDPROFILE_STORE_SLOTS)
         return GRIDPROFILE_STORE_FULL;
     if (at < all->used && serial_of(step->image) <= serial_of(slot->image)) {
@@ -86,9 +83,9 @@ static void print_older(const struct step *step)
     uint32_t stored = serial_of(step->older.image);
     fprintf(stderr,
             "  its serial, %" PRIu32 ", is not greater than %" PRIu32 ", which line %zu has for the"
-            " same country and class, %.2s and %c\n",
+            " same country, class and hertz, %.2s, %c and %" PRIu32 "\n",
             serial, stored, step->older.line, (const char *)step->image + GRIDPROFILE_COUNTRY_OFFSET,
-            step->image[GRIDPROFILE_CLASS_OFFSET]);
+            step->image[GRIDPROFILE_CLASS_OFFSET], hertz_of(step->image));
 }
 
 static void print_reason(const struct step *step)
@@ -100,7 +97,7 @@ static void print_reason(const struct step *step)
     else if (step->skipped == GRIDPROFILE_OLD_SERIAL)
         print_older(step);
     else if (step->skipped == GRIDPROFILE_STORE_FULL)
-        fprintf(stderr, "  %d other pairs of country and class are stored already\n",
+        fprintf(stderr, "  %d other triples of country, class and hertz are stored already\n",
                 GRIDPROFILE_STORE_SLOTS);
     if (step->skipped == GRIDPROFILE_BAD_SIZE)
         fprintf(stderr, "  it has %zu bytes with its line feed; it must have %d to %d\n",

@@ -184,6 +184,7 @@ void explain_line(FILE *to, const uint8_t *bytes, size_t length);
 
 /* words.c: prints a profile's image, or answers 5 where it breaks a rule. */
 uint32_t serial_of(const uint8_t *image);
+uint32_t hertz_of(const uint8_t *image);
 void print_device(FILE *to, const uint8_t *image);
 int print_profile(const uint8_t *image);
 
@@ -192,13 +193,15 @@ void print_fingerprint(FILE *to, const struct category *category, const uint8_t 
 
 /* store_file.c: a store's image with its checksum behind it. `open_store` looks at what was read and
  * sets the length to the image's where there is one, `check_slots` at what the image holds; each
- * answers 0 or the exit status. */
+ * answers 0 or the exit status. `is_same_triple` tells whether two profiles are for one country, class
+ * and hertz: a store has one for each. */
 #define CHECKSUM_BYTES 32
 #define STORE_FILE_BYTES (GRIDPROFILE_STORE_IMAGE_BYTES + CHECKSUM_BYTES)
 struct input store_input(const char *path, uint8_t *bytes);
 int open_store(struct input *store);
 void seal_store(uint8_t *bytes);
 int check_slots(const struct input *store);
+int is_same_triple(const uint8_t *one, const uint8_t *other);
 
 /* verify.c: the loader's answers 1 to 5, in its order, for any device and any store. */
 int verify_package(const struct category *category, const uint8_t *key, size_t key_length,

@@ -61,12 +61,19 @@ static int is_profile(const uint8_t *slot)
            memcmp(slot, image, sizeof image) == 0;
 }
 
-/* Whether an earlier slot has the same country and class. */
+/* Country and class stand side by side; serial and volts come before the hertz, and do not count. */
+int is_same_triple(const uint8_t *one, const uint8_t *other)
+{
+    size_t letters = GRIDPROFILE_SERIAL_OFFSET - GRIDPROFILE_COUNTRY_OFFSET;
+    return memcmp(one + GRIDPROFILE_COUNTRY_OFFSET, other + GRIDPROFILE_COUNTRY_OFFSET, letters) == 0 &&
+           hertz_of(one) == hertz_of(other);
+}
+
+/* Whether an earlier slot has the same country, class and hertz. */
 static int stands_before(const uint8_t *image, size_t slot)
 {
-    const uint8_t *pair = slot_at(image, slot) + GRIDPROFILE_COUNTRY_OFFSET;
-    size_t length = GRIDPROFILE_SERIAL_OFFSET - GRIDPROFILE_COUNTRY_OFFSET, at = 0;
-    while (at < slot && memcmp(slot_at(image, at) + GRIDPROFILE_COUNTRY_OFFSET, pair, length) != 0)
+    size_t at = 0;
+    while (at < slot && !is_same_triple(slot_at(image, at), slot_at(image, slot)))
         at++;
     return at < slot;
 }

@@ -21,16 +21,16 @@ static const struct refusal refusals[] = {
      "do not use this package; compare the key's fingerprint with the signer's, and fetch both again"},
     {"the profile line breaks a field rule, or its class does not fit its volts",
      "correct the line and sign it again; `gridprofile help line` has the rules"},
-    {"the profile is for another country or class than this device's",
-     "`gridprofile show` says which device the package is for"},
+    {"the profile is for another country, class or hertz than this device's",
+     "`gridprofile show` says which device the package is for; it may differ in the hertz alone"},
     {"the serial is not greater than the stored one",
      "a newer profile is signed under a greater serial; `gridprofile show` prints the stored one"},
-    {"16 profiles are stored, none of them for this country and class",
+    {"16 profiles are stored, none of them for this country, class and hertz",
      "a store never drops a profile: use another store file for this device"},
-    {"nothing is stored for this country and class",
-     "load a package for it first; `gridprofile show` prints what is stored"},
-    {"the country is not two letters A to Z, or the class not one letter A to D",
-     "write them as in: XA B"},
+    {"nothing is stored for this country, class and hertz",
+     "load a package for it first; `gridprofile show` prints what is stored, which may be for other hertz"},
+    {"the country is not two letters A to Z, the class not one of A to D, or the hertz not 50 or 60",
+     "write them as in: XA B 50"},
 };
 
 /* A byte that a terminal could take for an order: of a control, also of one that UTF-8 writes as C2 80

@@ -38,12 +38,14 @@ static const struct page pages[] = {
      "what the signer reads aloud.\n"},
     {"new-store", "STORE", "[--force] [--wait SECONDS]", "make an empty store",
      "With --force it empties a store that exists.\n"},
-    {"load", "STORE KEY PACKAGE COUNTRY CLASS", "[--category 1|3|5] [--wait SECONDS]",
+    {"load", "STORE KEY PACKAGE COUNTRY CLASS HERTZ", "[--category 1|3|5] [--wait SECONDS]",
      "verify a package and store its profile",
-     "Does what a device does that is set to COUNTRY and CLASS, and prints what it accepted and what\n"
-     "that replaces. STORE must exist. Loads of one store at the same time wait for each other.\n"
-     "A device is built for one category; a store file takes packages of each.\n"},
-    {"lookup", "STORE COUNTRY CLASS", "", "print the line that is stored for COUNTRY and CLASS", ""},
+     "Does what a device does that is set to COUNTRY, CLASS and HERTZ, and prints what it accepted and\n"
+     "what that replaces. Profiles of 50 and of 60 hertz stand side by side, and serials count for each\n"
+     "alone. STORE must exist. Loads of one store at the same time wait for each other. A device is\n"
+     "built for one category; a store file takes packages of each.\n"},
+    {"lookup", "STORE COUNTRY CLASS HERTZ", "", "print the line stored for COUNTRY, CLASS and HERTZ",
+     "A profile is found under its own hertz alone.\n"},
     {"show", "FILE", "", "print a package, a store, a line or a key in words",
      "It verifies nothing. Of a key or a package it says the category. Of a key it prints the\n"
      "fingerprint: 16 bytes of SHAKE128 of the key at category 1, 24 and 32 of SHAKE256 at 3 and 5.\n"
@@ -73,7 +75,7 @@ static const char *const files =
     "  SALT     as many bytes as a private seed\n"
     "  LINE     one profile line, 42 to 84 bytes with its line feed (`gridprofile help line`)\n"
     "  STORE    16 profiles and a checksum, 1248 bytes; 1216 without the checksum\n"
-    "COUNTRY is two letters A to Z, CLASS one letter A to D.\n"
+    "COUNTRY is two letters A to Z, CLASS one letter A to D, HERTZ 50 or 60.\n"
     "\n"
     "A file is written whole or not at all; after a refusal it is as it was.\n"
     "\n"

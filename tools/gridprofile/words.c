@@ -14,11 +14,16 @@ uint32_t serial_of(const uint8_t *image)
     return number(image + GRIDPROFILE_SERIAL_OFFSET);
 }
 
+uint32_t hertz_of(const uint8_t *image)
+{
+    return number(image + GRIDPROFILE_HERTZ_OFFSET);
+}
+
 void print_device(FILE *to, const uint8_t *image)
 {
-    fprintf(to, "country %.2s, class %c, serial %" PRIu32 "\n",
+    fprintf(to, "country %.2s, class %c, %" PRIu32 " Hz, serial %" PRIu32 "\n",
             (const char *)image + GRIDPROFILE_COUNTRY_OFFSET, image[GRIDPROFILE_CLASS_OFFSET],
-            serial_of(image));
+            hertz_of(image), serial_of(image));
 }
 
 static void print_voltage(const char *name, const uint8_t *trip, uint32_t volts)
@@ -56,7 +61,7 @@ int print_profile(const uint8_t *image)
 {
     uint8_t line[GRIDPROFILE_LINE_MAX_BYTES];
     uint32_t volts = number(image + GRIDPROFILE_VOLTS_OFFSET);
-    uint32_t hertz = number(image + GRIDPROFILE_HERTZ_OFFSET);
+    uint32_t hertz = hertz_of(image);
     size_t length = 0;
     int answer =
         gridprofile_write_line(image, GRIDPROFILE_PROFILE_IMAGE_BYTES, line, sizeof line, &length);

@@ -25,6 +25,7 @@ extern "C" {
         country: In,
         country_len: usize,
         class_letter: u32,
+        hertz: u32,
         line: Out,
         line_len: usize,
         length: *mut usize,
@@ -47,8 +48,8 @@ pub type VerifyRound =
 /// Private seed, master seed, salt, line, package, length.
 pub type MakePackage = unsafe extern "C" fn(In, usize, In, usize, In, usize, In, usize, Out, usize, *mut usize) -> u8;
 
-/// Store, key, package, country, class.
-pub type Load = unsafe extern "C" fn(Out, usize, In, usize, In, usize, In, usize, u32) -> u8;
+/// Store, key, package, country, class, hertz.
+pub type Load = unsafe extern "C" fn(Out, usize, In, usize, In, usize, In, usize, u32, u32) -> u8;
 
 /// The functions whose sizes are a category's.
 #[derive(Clone, Copy)]
@@ -138,6 +139,7 @@ macro_rules! category {
                 country: In,
                 country_len: usize,
                 class_letter: u32,
+                hertz: u32,
             ) -> u8;
         }
 

@@ -95,7 +95,8 @@ impl Category {
 
     pub fn load(&self, store: &mut [u8], key: &[u8], package: &[u8], device: &Device) -> u8 {
         let [(a, b), (c, d), (e, f)] = [key, package, device.country].map(|s| (s.as_ptr(), s.len()));
+        let (g, h) = (store.as_mut_ptr(), store.len());
         // SAFETY: as above.
-        unsafe { (self.functions.load)(store.as_mut_ptr(), store.len(), a, b, c, d, e, f, device.class) }
+        unsafe { (self.functions.load)(g, h, a, b, c, d, e, f, device.class, device.hertz) }
     }
 }

@@ -30,7 +30,7 @@ pub fn valid(rng: &mut Rng) -> Profile {
         class: class_of(volts).expect("100 to 1000"),
         serial: within(rng, &(1..=u32::MAX)),
         volts,
-        hertz: [50, 60][rng.below(2)],
+        hertz: NOMINAL_HERTZ[rng.below(2)],
         trips: TRIPS.map(|(kind, limits)| Trip { kind, limit: within(rng, &limits), delay: within(rng, &DELAYS) }),
         rate: (rng.below(2) == 0).then(|| some_rate(rng)),
     }
@@ -110,6 +110,30 @@ pub fn texts(field: usize) -> Vec<String> {
         ]
     });
     spelt.chain(words.iter().map(|word| word.to_string())).collect()
+}
+
+/// Numbers that are no hertz of a grid: beside 50 and 60, between them, and with 50 or 60 in some of their bytes alone.
+pub const NO_HERTZ: [u32; 15] = [
+    0,
+    16,
+    49,
+    51,
+    55,
+    59,
+    61,
+    50 + 256,
+    60 + 256,
+    50 + 65_536,
+    60 + 65_536,
+    50 + (1 << 24),
+    60 + (1 << 24),
+    50 << 24,
+    u32::MAX,
+];
+
+/// The one of both hertz that these are not.
+pub fn other_hertz(hertz: u32) -> u32 {
+    NOMINAL_HERTZ.into_iter().find(|&other| other != hertz).expect("one of two")
 }
 
 /// Numbers that stand for the presence of a rate point: only 0 says that it is absent.

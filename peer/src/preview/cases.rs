@@ -2,7 +2,7 @@
 
 use super::*;
 use crate::line::cases::{by_length, valid};
-use crate::line::{write_line, Profile};
+use crate::line::{write_line, Profile, NOMINAL_HERTZ};
 use crate::rng::Rng;
 
 /// The worked example.
@@ -23,11 +23,30 @@ GP2,XA,C,5,400,50,1100,200,850,1500,1500,100,-2500,100,2000,500
 GP1,XA,C,6,400,50,1100,200,850,1500,1500,100,-2500,100
 ";
 
+/// Both hertz of one country and class: each has a row, and its own serials decide, so that 1 at 60 hertz is taken
+/// after 13 at 50. Of each hertz one line comes too late.
+pub const BOTH_HERTZ: &str = "\
+GP1,XA,B,12,230,50,1150,100,800,1500,1500,100,-2500,100
+GP1,XA,C,5,400,50,1100,200,850,1500,1500,100,-2500,100
+GP2,XA,B,13,230,50,1150,100,800,1500,1500,100,-2500,100,2000,500
+GP1,XA,B,1,230,60,1150,100,800,1500,1500,100,-2500,100
+GP1,XA,B,12,230,50,1150,100,800,1500,1500,100,-2500,100
+GP2,XA,B,2,230,60,1150,100,800,1500,1500,100,-2500,100,2000,500
+GP1,XA,B,1,230,60,1150,100,800,1500,1500,100,-2500,100
+";
+
+/// The listings of these three, their rows sorted.
+pub const LISTED: [(&str, &str); 3] = [
+    (EXAMPLE, "COUNTRY,CLASS,HERTZ,SERIAL\nXA,B,50,12\nXA,C,50,5\n"),
+    (BOTH_KINDS, "COUNTRY,CLASS,HERTZ,SERIAL\nXA,B,50,13\nXA,C,50,6\n"),
+    (BOTH_HERTZ, "COUNTRY,CLASS,HERTZ,SERIAL\nXA,B,50,13\nXA,B,60,2\nXA,C,50,5\n"),
+];
+
 fn written(profile: &Profile) -> String {
     String::from_utf8(write_line(profile).expect("valid")).expect("letters and digits")
 }
 
-/// A valid line of one of a few countries, with a small serial, so that pairs come again.
+/// A valid line of one of a few countries, with a small serial, so that triples come again.
 pub fn line(rng: &mut Rng, countries: usize) -> String {
     let country = [b'X', b'A' + rng.below(countries) as u8];
     written(&Profile { country, serial: 1 + rng.below(9) as u32, ..valid(rng) })
@@ -41,10 +60,29 @@ fn reversed(lines: &str) -> String {
     lines.lines().rev().map(|line| line.to_string() + "\n").collect()
 }
 
-/// `count` pairs, each of a country of its own.
-fn pairs(rng: &mut Rng, count: u8) -> String {
-    let country = |at| [b'A' + at / 26, b'A' + at % 26];
+fn country(at: u8) -> [u8; 2] {
+    [b'A' + at / 26, b'A' + at % 26]
+}
+
+/// `count` triples, each of a country of its own.
+fn triples(rng: &mut Rng, count: u8) -> String {
     (0..count).map(|at| written(&Profile { country: country(at), ..valid(rng) })).collect()
+}
+
+/// `count` triples whose rows have the greatest length, two of each country: its one class at both hertz.
+pub fn longest_rows(rng: &mut Rng, count: u8) -> String {
+    let base = Profile { serial: u32::MAX, ..valid(rng) };
+    let at_both = |at: u8| Profile { country: country(at / 2), hertz: NOMINAL_HERTZ[usize::from(at % 2)], ..base };
+    (0..count).map(|at| written(&at_both(at))).collect()
+}
+
+/// 16 triples at 50 hertz; then for the first country the other hertz, for which there is no room, and a newer profile,
+/// for which there is.
+fn one_hertz_too_many(rng: &mut Rng) -> String {
+    let base = Profile { hertz: 50, serial: 1, ..valid(rng) };
+    let full: Vec<Profile> = (0..16).map(|at| Profile { country: country(at), ..base }).collect();
+    let late = [Profile { hertz: 60, serial: 9, ..full[0] }, Profile { serial: 2, ..full[0] }];
+    full.iter().chain(&late).map(written).collect()
 }
 
 /// The longest line of each kind, and for another country the same with a digit more, which is refused.
@@ -81,6 +119,8 @@ pub fn named(rng: &mut Rng) -> Vec<(&'static str, Vec<u8>)> {
         ("the example", text(EXAMPLE)),
         ("both kinds", text(BOTH_KINDS)),
         ("both kinds the other way round", text(&reversed(BOTH_KINDS))),
+        ("both hertz", text(BOTH_HERTZ)),
+        ("both hertz the other way round", text(&reversed(BOTH_HERTZ))),
         ("the longest lines, and longer ones", text(&longest())),
         ("nothing", Vec::new()),
         ("no LF", text("GP1,XA,B,12")),
@@ -89,10 +129,13 @@ pub fn named(rng: &mut Rng) -> Vec<(&'static str, Vec<u8>)> {
         ("CR LF", text(&good.replace('\n', "\r\n"))),
         ("refused lines between good ones", text(&good.replace('\n', "\nGP1,bad\n\n"))),
         ("an unfinished last line", text(&good[..good.len() - 1])),
-        ("an unfinished last line of another pair", text(&(good.clone() + EXAMPLE.trim_end()))),
-        ("16 pairs", text(&pairs(rng, 16))),
-        ("17 pairs", text(&pairs(rng, 17))),
-        ("40 pairs, then the first again", text(&(pairs(rng, 40) + &pairs(rng, 16)))),
+        ("an unfinished last line of another triple", text(&(good.clone() + EXAMPLE.trim_end()))),
+        ("16 triples", text(&triples(rng, 16))),
+        ("17 triples", text(&triples(rng, 17))),
+        ("40 triples, then the first again", text(&(triples(rng, 40) + &triples(rng, 16)))),
+        ("16 rows of the greatest length", text(&longest_rows(rng, 16))),
+        ("17 rows of the greatest length", text(&longest_rows(rng, 17))),
+        ("a 17th triple that is the other hertz of the first", text(&one_hertz_too_many(rng))),
         ("replaced serials", text(&lines(rng, 200, 2))),
         ("the same line twice", text(&EXAMPLE.repeat(2))),
         ("the lines the other way round", text(&reversed(EXAMPLE))),

@@ -1,35 +1,55 @@
 //! The worked example, and what is skipped.
 
-use super::cases::{any, named, BOTH_KINDS, EXAMPLE};
+use super::cases::{any, named, LISTED};
 use super::*;
 use crate::rng::Rng;
 
 #[test]
-fn the_example() {
-    assert_eq!(listing(EXAMPLE.as_bytes()), "COUNTRY,CLASS,SERIAL\nXA,B,12\nXA,C,5\n");
+fn the_examples() {
+    for (input, wanted) in LISTED {
+        assert_eq!(listing(input.as_bytes()), wanted);
+    }
 }
 
-#[test]
-fn both_kinds() {
-    assert_eq!(listing(BOTH_KINDS.as_bytes()), "COUNTRY,CLASS,SERIAL\nXA,B,13\nXA,C,6\n");
+/// The listing of the input that is called so.
+fn listed(name: &str) -> String {
+    let inputs = named(&mut Rng::new(50));
+    let (_, input) = inputs.iter().find(|(other, _)| *other == name).expect("a name");
+    listing(input)
 }
 
 #[test]
 fn rows_of_the_named_inputs() {
-    let rows = |name: &str| {
-        let inputs = named(&mut Rng::new(50));
-        let (_, input) = inputs.iter().find(|(other, _)| *other == name).expect("a name");
-        listing(input).lines().count() - 1
-    };
+    let rows = |name: &str| listed(name).lines().count() - 1;
     for name in ["nothing", "no LF", "only LFs", "CR LF", "one line without its LF", "NUL bytes after lines"] {
         assert_eq!(rows(name), 0, "{name}");
     }
-    for name in ["16 pairs", "17 pairs", "40 pairs, then the first again"] {
+    for name in ["16 triples", "17 triples", "40 triples, then the first again"] {
         assert_eq!(rows(name), 16, "{name}");
     }
     for name in ["the same line twice", "the lines the other way round", "the longest lines, and longer ones"] {
         assert_eq!(rows(name), 2, "{name}");
     }
+    for name in ["both hertz", "both hertz the other way round"] {
+        assert_eq!(rows(name), 3, "{name}");
+    }
+}
+
+#[test]
+fn the_longest_listing() {
+    assert_eq!((HEADER.len(), LISTING), (27, 331));
+    for name in ["16 rows of the greatest length", "17 rows of the greatest length"] {
+        let whole = listed(name);
+        assert_eq!(whole.len(), LISTING, "{name}");
+        assert!(whole.lines().skip(1).all(|row| row.len() == 18), "{name}");
+    }
+}
+
+#[test]
+fn the_other_hertz_as_a_17th_triple() {
+    let whole = listed("a 17th triple that is the other hertz of the first");
+    let rows: Vec<&str> = whole.lines().skip(1).collect();
+    assert!(rows.len() == 16 && rows[0].ends_with(",50,2") && rows[1..].iter().all(|row| row.ends_with(",50,1")));
 }
 
 #[test]
@@ -45,8 +65,8 @@ fn an_input_may_have_65536_bytes() {
 fn the_last_of_65536_bytes_counts() {
     let inputs = named(&mut Rng::new(53));
     let (_, input) = inputs.iter().find(|(name, _)| name.ends_with("the last line good")).expect("a name");
-    assert!(input.len() == 65_536 && listing(input).contains("XA,B,12\n"));
-    assert!(!listing(&input[..65_535]).contains("XA,B,12\n"));
+    assert!(input.len() == 65_536 && listing(input).contains("XA,B,50,12\n"));
+    assert!(!listing(&input[..65_535]).contains("XA,B,50,12\n"));
 }
 
 #[test]

@@ -37,20 +37,22 @@ fn making() {
     });
 }
 
-/// The image of a store that holds an older profile of the line's pair, and one of another.
+/// The image of a store that holds an older profile of the line's triple, and beside it one of another country and one
+/// of the other hertz.
 fn stored() -> Vec<u8> {
     let profile = read_line(LINE).expect("a line");
-    let older = [Profile { serial: 11, ..profile }, Profile { country: *b"XB", ..profile }];
-    resized(&older.each_ref().map(image).concat(), STORE)
+    let [older, country] = [Profile { serial: 11, ..profile }, Profile { country: *b"XB", ..profile }];
+    resized(&[country, Profile { hertz: 60, ..profile }, older].each_ref().map(image).concat(), STORE)
 }
 
-/// Loads in both programs, for the line's device and for one that does not exist: 1, or 10 before it,
+/// Loads in both programs, for the line's device and for two that do not exist: 1, or 10 before it,
 /// wherever a size is not the category's own.
 fn load_both(t: &mut Tally, own: &World, key: &[u8], package: &[u8]) {
     let (category, s) = (own.category, own.category.sizes);
     let right = key.len() == s.key() && package_lengths(&s).contains(&package.len());
-    for (class, wanted) in [(66, u8::from(!right)), (69, 10)] {
-        let (device, shown) = (Device { country: b"XA", class }, || format!("{} {}", key.len(), package.len()));
+    let shown = || format!("{} {}", key.len(), package.len());
+    for (class, hertz, wanted) in [(66, 50, u8::from(!right)), (69, 50, 10), (66, 55, 10)] {
+        let device = Device { country: b"XA", class, hertz };
         let (in_key, in_package) = (Lent::holding(key, t.inputs()), Lent::holding(package, t.inputs()));
         let (mut proved, mut plain) = (Lent::holding(&stored(), t.inputs()), stored());
         let answer = category.load(proved.part(), in_key.content(), in_package.content(), &device);
@@ -76,6 +78,6 @@ fn loading() {
             load_both(&mut t, own, &resized(&own.key, len), &own.package());
             load_both(&mut t, own, &own.key, &resized(&own.package(), len));
         }
-        t.finish(80, &[0, 1, 10]);
+        t.finish(120, &[0, 1, 10]);
     });
 }

@@ -1,6 +1,6 @@
 //! The program, fed through a pipe.
 
-use peer::preview::cases::{any, named, BOTH_KINDS, EXAMPLE};
+use peer::preview::cases::{any, named, LISTED};
 use peer::preview::{in_order, listing};
 use peer::rng::Rng;
 use std::io::{Read, Write};
@@ -48,8 +48,8 @@ fn run(input: &[u8], feed: Feed) -> String {
 
 #[test]
 fn the_examples_as_they_stand() {
-    for (input, rows) in [(EXAMPLE, "XA,B,12\nXA,C,5\n"), (BOTH_KINDS, "XA,B,13\nXA,C,6\n")] {
-        assert_eq!(run(input.as_bytes(), at_once), format!("COUNTRY,CLASS,SERIAL\n{rows}"));
+    for (input, wanted) in LISTED {
+        assert_eq!(run(input.as_bytes(), at_once), wanted);
     }
 }
 

@@ -2,17 +2,21 @@
 
 use peer::archive::{self, Category};
 use peer::harness::{Lent, Tally};
-use peer::line::{read_line, write_line, Profile, LONGEST};
+use peer::line::{read_line, write_line, Profile, LONGEST, NOMINAL_HERTZ};
 use peer::rng::Rng;
 use peer::scheme;
 use peer::store::{self, wrote_one_slot, Device, Store, Verify, STORE};
 
-/// Few countries, so that pairs come again; with four classes they are more pairs than fit.
-pub const COUNTRIES: [&[u8; 2]; 6] = [b"XA", b"XB", b"XC", b"XD", b"XE", b"AX"];
+/// Few countries, so that triples come again; with four classes and both hertz they are more triples than fit.
+pub const COUNTRIES: [&[u8; 2]; 4] = [b"XA", b"XB", b"XC", b"AX"];
+
+/// How many devices there are of these countries.
+pub const DEVICES: usize = COUNTRIES.len() * 4 * NOMINAL_HERTZ.len();
 
 /// Every device of these countries.
 pub fn devices() -> impl Iterator<Item = Device<'static>> {
-    COUNTRIES.into_iter().flat_map(|country| (65..69).map(move |class| Device { country, class }))
+    let of = |country: &'static [u8; 2], class| NOMINAL_HERTZ.map(|hertz| Device { country, class, hertz });
+    COUNTRIES.into_iter().flat_map(move |country| (65..69).flat_map(move |class| of(country, class)))
 }
 
 /// A key and a package.
@@ -110,7 +114,7 @@ impl Both {
         out
     }
 
-    /// Looks every pair up.
+    /// Looks every triple up.
     pub fn find_all(&self, t: &mut Tally) {
         for device in devices() {
             self.find(t, &device);
@@ -145,8 +149,4 @@ impl Signer {
     pub fn package_of(&self, rng: &mut Rng, profile: &Profile) -> Vec<u8> {
         self.package(rng, &write_line(profile).expect("valid"))
     }
-}
-
-pub fn device_of(profile: &Profile) -> Device<'_> {
-    Device { country: &profile.country, class: u32::from(profile.class) }
 }

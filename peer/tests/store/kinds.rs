@@ -1,59 +1,17 @@
 //! Profiles with a rate point and without, in one store.
 
-use crate::both::{device_of, Both, Sent, Signer};
-use peer::archive::{Category, CATEGORIES};
-use peer::harness::Tally;
+use crate::held::Held;
+use peer::archive::CATEGORIES;
 use peer::line::cases::{by_length, some_rate, valid, PRESENCES};
 use peer::line::{image, write_line, Profile, RATE};
 use peer::rng::Rng;
 use peer::store::{Device, STORE};
 
-/// A store, and a signer whose packages are loaded into it.
-struct Held {
-    both: Both,
-    signer: Signer,
-    rng: Rng,
-    loads: Tally,
-    finds: Tally,
-}
-
-impl Held {
-    fn new(category: &Category, what: &str, image: &[u8]) -> Held {
-        let [loads, finds] = ["load", "lookup"].map(|entry| category.tally(&format!("{entry}, {what}")));
-        let mut rng = Rng::new(0x6B69_6E64);
-        let signer = Signer::new(category, &mut rng);
-        Held { both: Both::from(category, image), signer, rng, loads, finds }
-    }
-
-    /// Loads the package of a line, for any device.
-    fn load(&mut self, line: &[u8], device: &Device) -> u8 {
-        let package = self.signer.package(&mut self.rng, line);
-        self.both.load_fast(&mut self.loads, Sent { key: &self.signer.key, package: &package }, device)
-    }
-
-    /// Loads a profile on its own device.
-    fn put(&mut self, profile: &Profile) -> u8 {
-        self.load(&write_line(profile).expect("valid"), &device_of(profile))
-    }
-
-    /// A lookup gives back the profile's very line.
-    fn demand(&mut self, profile: &Profile) {
-        let device = device_of(profile);
-        assert_eq!(self.both.find(&mut self.finds, &device), 0);
-        assert_eq!(self.both.line(&device), write_line(profile).expect("valid"));
-    }
-
-    fn finish(self, loads: usize, answers: &[u8], finds: usize) {
-        self.loads.finish(loads, answers);
-        self.finds.finish(finds, &[0]);
-    }
-}
-
 /// A rate point comes, changes and goes: the serial alone decides.
 #[test]
-fn of_one_pair() {
+fn of_one_triple() {
     for category in &CATEGORIES {
-        let mut held = Held::new(category, "kinds of one pair", &[0; STORE]);
+        let mut held = Held::new(category, "kinds of one triple", &[0; STORE]);
         let (profile, mut rng) = (valid(&mut Rng::new(9)), Rng::new(10));
         let [one, other] = [(); 2].map(|()| Some(some_rate(&mut rng)));
         let steps = [(12, None), (12, one), (13, one), (13, None), (12, None), (14, other), (15, None), (16, one)];
@@ -64,13 +22,13 @@ fn of_one_pair() {
             stored = if wanted == 0 { Some(next) } else { stored };
             held.demand(&stored.expect("the first is loaded"));
         }
-        held.finish(8, &[0, 7], 8);
+        held.finish((8, &[0, 7]), (8, &[0]));
     }
 }
 
-/// Sixteen pairs of both kinds in turns; a 17th finds no room; then each is replaced by the other kind.
+/// Sixteen triples of both kinds in turns; a 17th finds no room; then each is replaced by the other kind.
 #[test]
-fn of_all_pairs() {
+fn of_all_triples() {
     for category in &CATEGORIES {
         let mut held = Held::new(category, "kinds in a full store", &[0; STORE]);
         let mut rng = Rng::new(11);
@@ -88,7 +46,7 @@ fn of_all_pairs() {
             assert_eq!(held.put(&all[at]), 0);
         }
         all.iter().for_each(|profile| held.demand(profile));
-        held.finish(33, &[0, 8], 32);
+        held.finish((33, &[0, 8]), (32, &[0]));
     }
 }
 
@@ -109,9 +67,9 @@ fn of_every_length() {
         for (tag, (len, wanted)) in [b"GP1,", b"GP2,"].into_iter().flat_map(|tag| lengths.map(|len| (tag, len))) {
             let mut line = tag.to_vec();
             line.resize(len, b'7');
-            assert_eq!(held.load(&line, &Device { country: b"XA", class: 65 }), wanted, "{len}");
+            assert_eq!(held.load(&line, &Device { country: b"XA", class: 65, hertz: 50 }), wanted, "{len}");
         }
-        held.finish(22, &[0, 1, 5], 6);
+        held.finish((22, &[0, 1, 5]), (6, &[0]));
     }
 }
 
@@ -140,6 +98,6 @@ fn of_every_presence() {
             held.demand(profile);
             assert_eq!(held.put(profile), 7);
         }
-        held.finish(10, &[0, 7], 9);
+        held.finish((10, &[0, 7]), (9, &[0]));
     }
 }

@@ -1,6 +1,6 @@
 //! Making packages.
 
-use crate::both::{device_of, Both, Sent};
+use crate::both::{Both, Sent};
 use peer::archive::{Category, CATEGORIES};
 use peer::harness::Tally;
 use peer::line::cases::{some_rate, valid};
@@ -87,7 +87,7 @@ fn made(category: &Category, seeds: &Seeds, line: &[u8]) -> (Vec<u8>, Vec<u8>) {
 fn load_made(category: &Category, t: &mut Tally, finds: &mut Tally, seeds: &Seeds, line: &[u8]) {
     let (key, package) = made(category, seeds, line);
     let (mut both, profile) = (Both::empty(category), read_line(line).expect("valid"));
-    let (sent, device) = (Sent { key: &key, package: &package }, device_of(&profile));
+    let (sent, device) = (Sent { key: &key, package: &package }, Device::of(&profile));
     assert_eq!(both.load_clear(t, sent, &device), 0);
     assert_eq!(both.stored(), [profile]);
     assert_eq!(both.find(finds, &device), 0);
@@ -144,11 +144,11 @@ fn ends() {
             load_made(category, &mut loads, &mut finds, &parts, line);
             let (key, package) = made(category, &parts, line);
             assert_eq!(package.len(), lengths[at]);
-            let device = Device { country: b"XA", class: u32::from(line[7]) };
+            let profile = read_line(line).expect("valid");
             for other in [package[..package.len() - 1].to_vec(), [&package[..], b"\n"].concat()] {
                 let wanted = if (42..=84).contains(&(other.len() - category.sizes.signature())) { 3 } else { 1 };
                 let sent = Sent { key: &key, package: &other };
-                assert_eq!(Both::empty(category).load_fast(&mut loads, sent, &device), wanted);
+                assert_eq!(Both::empty(category).load_fast(&mut loads, sent, &Device::of(&profile)), wanted);
             }
         }
         t.finish(4, &[0]);

@@ -1,9 +1,9 @@
 //! Every pair of refusals that one input can have: the earlier wins. And the worked cases.
 
-use crate::both::{device_of, Both, Sent, Signer};
+use crate::both::{Both, Sent, Signer};
 use peer::archive::{Category, CATEGORIES, CATEGORY_1};
 use peer::harness::Tally;
-use peer::line::cases::valid;
+use peer::line::cases::{valid, NO_HERTZ};
 use peer::line::{image, read_line, Profile, Rate};
 use peer::rng::Rng;
 use peer::scheme::challenges;
@@ -48,6 +48,7 @@ struct Input {
     room: Option<usize>,
     country: &'static [u8],
     class: u32,
+    hertz: u32,
 }
 
 /// The line's profile, at other countries, classes and serials.
@@ -61,17 +62,25 @@ fn holding(profiles: &[Profile]) -> Vec<u8> {
     bytes
 }
 
-/// The pair at this serial and one beside it.
-fn with_pair(serial: u32) -> Vec<u8> {
-    holding(&[at(*b"XZ", b'B', 1), at(*b"XA", b'B', serial)])
+/// The line's profile with the greatest serial, at these hertz.
+fn newest_at(hertz: u32) -> Profile {
+    Profile { hertz, ..at(*b"XA", b'B', u32::MAX) }
 }
 
-/// Sixteen pairs, the last of which is this.
+/// The triple at this serial between others: one of another country, and the other hertz with a serial that is greater
+/// than any.
+fn with_triple(serial: u32) -> Vec<u8> {
+    holding(&[at(*b"XZ", b'B', 1), newest_at(60), at(*b"XA", b'B', serial)])
+}
+
+/// Sixteen triples, the last of which is this. The others differ from the line's in one letter, or in one byte of the
+/// hertz.
 fn full(last: Profile) -> Vec<u8> {
     let near =
         [at(*b"XA", b'A', 1), at(*b"XA", b'C', 1), at(*b"XA", b'D', 1), at(*b"XB", b'B', 1), at(*b"AX", b'B', 1)];
-    let others = (0..10).map(|letter| at([b'Y', b'A' + letter], b'B', 1));
-    holding(&near.into_iter().chain(others).chain([last]).collect::<Vec<Profile>>())
+    let other_hertz = [60, 51, 50 + 256, 50 + 65_536, 50 + (1 << 24)].map(newest_at);
+    let others = (0..5).map(|letter| at([b'Y', b'A' + letter], b'B', 1));
+    holding(&near.into_iter().chain(other_hertz).chain(others).chain([last]).collect::<Vec<Profile>>())
 }
 
 /// The part of the first round with second challenge 0: response, transformation, commitment.
@@ -92,7 +101,7 @@ type Fault = (u8, &'static str, fn(&mut Input));
 /// Faults in the order in which they are looked at, each with its refusal and its place: two faults
 /// of one place cannot come together. A draw of these sizes is short for no input that can be found,
 /// so 2 is not among them.
-const FAULTS: [Fault; 47] = [
+const FAULTS: [Fault; 60] = [
     (10, "country", |i| i.country = b"Xa"),
     (10, "country", |i| i.country = b"[A"),
     (10, "country", |i| i.country = b""),
@@ -104,6 +113,17 @@ const FAULTS: [Fault; 47] = [
     (10, "class", |i| i.class = 69),
     (10, "class", |i| i.class = 66 + 256),
     (10, "class", |i| i.class = 66 + 65_536),
+    (10, "hertz", |i| i.hertz = 0),
+    (10, "hertz", |i| i.hertz = 16),
+    (10, "hertz", |i| i.hertz = 49),
+    (10, "hertz", |i| i.hertz = 51),
+    (10, "hertz", |i| i.hertz = 55),
+    (10, "hertz", |i| i.hertz = 59),
+    (10, "hertz", |i| i.hertz = 61),
+    (10, "hertz", |i| i.hertz = 50 + 256),
+    (10, "hertz", |i| i.hertz = 50 + 65_536),
+    (10, "hertz", |i| i.hertz = 60 + (1 << 24)),
+    (10, "hertz", |i| i.hertz = u32::MAX),
     (1, "image", |i| i.image.truncate(1_023)),
     (1, "image", |i| i.image.truncate(1_024)),
     (1, "image", |i| i.image.truncate(1_215)),
@@ -135,11 +155,13 @@ const FAULTS: [Fault; 47] = [
     (6, "country", |i| i.country = b"XB"),
     (6, "country", |i| i.country = b"AX"),
     (6, "class", |i| i.class = 65),
-    (7, "store", |i| i.image = with_pair(12)),
-    (7, "store", |i| i.image = with_pair(13)),
-    (7, "store", |i| i.image = with_pair(u32::MAX)),
+    (6, "hertz", |i| i.hertz = 60),
+    (7, "store", |i| i.image = with_triple(12)),
+    (7, "store", |i| i.image = with_triple(13)),
+    (7, "store", |i| i.image = with_triple(u32::MAX)),
     (7, "store", |i| i.image = full(at(*b"XA", b'B', 12))),
     (8, "store", |i| i.image = full(at(*b"YZ", b'B', 12))),
+    (8, "store", |i| i.image = full(newest_at(50 << 24))),
 ];
 
 /// The package of every line and claim.
@@ -162,7 +184,7 @@ fn pairs_at(category: &Category) {
     let made = packages(&sizes, &mut rng, &signer);
     let honest = Input {
         sizes,
-        image: with_pair(11),
+        image: with_triple(11),
         key: signer.key.clone(),
         line: LINE,
         claim: Claim::Honest,
@@ -170,6 +192,7 @@ fn pairs_at(category: &Category) {
         room: None,
         country: b"XA",
         class: 66,
+        hertz: 50,
     };
     let mut answer = |faults: &[Fault]| {
         let mut i = honest.clone();
@@ -178,7 +201,8 @@ fn pairs_at(category: &Category) {
         let mut package = found.expect("made").2.clone();
         i.damage.iter().for_each(|damage| damage(&sizes, &mut package));
         package.resize(i.room.unwrap_or(package.len()), b'0');
-        let (sent, device) = (Sent { key: &i.key, package: &package }, Device { country: i.country, class: i.class });
+        let Input { country, class, hertz, .. } = i;
+        let (sent, device) = (Sent { key: &i.key, package: &package }, Device { country, class, hertz });
         let mut both = Both::from(category, &i.image);
         if category.number == 1 {
             both.load_clear(&mut t, sent, &device)
@@ -194,7 +218,7 @@ fn pairs_at(category: &Category) {
             assert_eq!(answer(&[other, fault]), fault.0, "faults {at} and {later}");
         }
     }
-    t.finish(1_032, &[0, 1, 3, 4, 5, 6, 7, 8, 10]);
+    t.finish(1_663, &[0, 1, 3, 4, 5, 6, 7, 8, 10]);
 }
 
 #[test]
@@ -202,54 +226,75 @@ fn pairs_of_refusals() {
     CATEGORIES.iter().for_each(pairs_at);
 }
 
-/// A lookup with each setting of country, class, image and room, right and wrong.
+/// Settings of country, class and hertz, right and wrong, each with its refusal: what is wrong in several ways is no
+/// device's (10) before it is one for which nothing is stored (9).
+fn settings() -> Vec<(Device<'static>, u8)> {
+    let countries: [(&[u8], u8); 7] =
+        [(b"XA", 0), (b"XB", 9), (b"", 10), (b"X", 10), (b"XAA", 10), (b"xA", 10), (b"X@", 10)];
+    let classes = [(66, 0), (68, 9), (64, 10), (69, 10), (66 + 256, 10), (66 + (1 << 24), 10)];
+    let hertz: Vec<_> = [(50, 0), (60, 9)].into_iter().chain(NO_HERTZ.map(|hertz| (hertz, 10))).collect();
+    let mut all = Vec::new();
+    for (country, of_country) in countries {
+        for (class, of_class) in classes {
+            let with = |&(hertz, of_hertz): &(u32, u8)| {
+                (Device { country, class, hertz }, of_country.max(of_class).max(of_hertz))
+            };
+            all.extend(hertz.iter().map(with));
+        }
+    }
+    all
+}
+
+/// A lookup with each setting, image and room, right and wrong.
 #[test]
 fn lookups() {
     let (mut t, good) = (Tally::new("lookup, refusals"), at(*b"XA", b'B', 12));
     let rates = [100, 99].map(|limit| holding(&[Profile { rate: Some(Rate { limit, delay: 20 }), ..good }]));
-    let stored = [with_pair(12), with_pair(0), holding(&[Profile { volts: 260, ..good }]), vec![0; STORE]];
+    let [broken, near] = [Profile { volts: 260, ..good }, newest_at(50 + 65_536)];
+    let stored = [vec![good], vec![Profile { serial: 0, ..good }], vec![broken], vec![near, good], vec![near], vec![]]
+        .map(|profiles| holding(&profiles));
     let sizes = [0, 76, 1_140, 1_023, 1_024, 1_215, 1_217, 2_432].map(|len| vec![0; len]);
-    let held = rates.iter().chain(&stored).zip([0, 5, 0, 5, 5, 9]);
+    let held = rates.iter().chain(&stored).zip([0, 5, 0, 5, 5, 0, 9, 9]);
     let images = held.chain(sizes.iter().zip([1; 8]));
-    let countries: [(&[u8], u8); 7] =
-        [(b"XA", 0), (b"XB", 9), (b"", 10), (b"X", 10), (b"XAA", 10), (b"xA", 10), (b"X@", 10)];
     for (image, of_image) in images {
-        for (country, of_country) in countries {
-            for (class, of_class) in [(66, 0), (68, 9), (64, 10), (69, 10), (66 + 256, 10), (66 + (1 << 24), 10)] {
-                for room in [84, 0, 1, 71, 72, 73, 83, 85, 168] {
-                    let due = [of_country, of_class, u8::from(room != 84), of_image];
-                    let wanted = [10, 1, 9].into_iter().find(|refusal| due.contains(refusal)).unwrap_or(of_image);
-                    let answer = Both::from(&CATEGORY_1, image).lookup(&mut t, &Device { country, class }, room);
-                    assert_eq!(answer, wanted, "{country:?} {class} {room}");
-                }
+        for (device, of_device) in settings() {
+            for room in [84, 0, 1, 71, 72, 73, 83, 85, 168] {
+                let due = [of_device, u8::from(room != 84), of_image];
+                let wanted = [10, 1, 9].into_iter().find(|refusal| due.contains(refusal)).unwrap_or(of_image);
+                let answer = Both::from(&CATEGORY_1, image).lookup(&mut t, &device, room);
+                assert_eq!(answer, wanted, "{device:?} {room}");
             }
         }
     }
-    t.finish(5_292, &[0, 1, 5, 9, 10]);
+    t.finish(16 * 714 * 9, &[0, 1, 5, 9, 10]);
 }
 
-/// Serial 12 after 12, then 13; a 17th pair; and the same country with another class stays apart.
+/// Serial 12 after 12, then 13; a 17th triple; and the same country with another class or other hertz stays apart.
 fn worked_at(category: &Category) {
     let (mut t, mut rng) = (category.tally("load, worked cases"), Rng::new(7));
     let (signer, mut both) = (Signer::new(category, &mut rng), Both::empty(category));
     let mut load = |both: &mut Both, profile: &Profile| {
         let package = signer.package_of(&mut rng, profile);
-        both.load_clear(&mut t, Sent { key: &signer.key, package: &package }, &device_of(profile))
+        both.load_clear(&mut t, Sent { key: &signer.key, package: &package }, &Device::of(profile))
     };
     let twelve = read_line(LINE).expect("a line");
     let thirteen = Profile { serial: 13, ..twelve };
     let other_class = Profile { class: b'C', volts: 400, serial: 5, ..twelve };
-    for (profile, wanted) in [(twelve, 0), (twelve, 7), (thirteen, 0), (twelve, 7), (other_class, 0)] {
+    let other_hertz = Profile { hertz: 60, serial: 1, ..twelve };
+    let steps = [(twelve, 0), (twelve, 7), (thirteen, 0), (twelve, 7), (other_class, 0), (other_hertz, 0)];
+    for (profile, wanted) in steps.into_iter().chain([(other_hertz, 7), (thirteen, 7)]) {
         assert_eq!(load(&mut both, &profile), wanted);
     }
-    assert_eq!(both.stored(), [thirteen, other_class]);
+    assert_eq!(both.stored(), [other_hertz, thirteen, other_class]);
     let base = valid(&mut Rng::new(8));
-    for at in 0..15 {
-        let wanted = if at < 14 { 0 } else { 8 };
+    for at in 0..14 {
+        let wanted = if at < 13 { 0 } else { 8 };
         assert_eq!(load(&mut both, &Profile { country: [b'Q', b'A' + at], ..base }), wanted);
     }
-    assert_eq!(load(&mut both, &Profile { serial: 14, ..twelve }), 0);
-    t.finish(21, &[0, 7, 8]);
+    for newer in [Profile { serial: 14, ..twelve }, Profile { serial: 2, ..other_hertz }] {
+        assert_eq!(load(&mut both, &newer), 0);
+    }
+    t.finish(24, &[0, 7, 8]);
 }
 
 #[test]

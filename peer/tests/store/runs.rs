@@ -1,9 +1,9 @@
 //! Runs of random calls on one store.
 
-use crate::both::{device_of, devices, Both, Sent, Signer, COUNTRIES};
+use crate::both::{devices, Both, Sent, Signer, COUNTRIES, DEVICES};
 use peer::archive::{Category, CATEGORIES};
 use peer::harness::Tally;
-use peer::line::cases::valid;
+use peer::line::cases::{other_hertz, valid, NO_HERTZ};
 use peer::line::{class_of, image, Profile, IMAGE, LONGEST};
 use peer::rng::Rng;
 use peer::scheme;
@@ -48,35 +48,31 @@ fn post(s: &Sizes, rng: &mut Rng, signer: &Signer, other: &Signer, turn: usize) 
     Post { profile, key, package, due }
 }
 
-/// Settings that no device has.
-const NO_DEVICES: [(&[u8], u32); 13] = [
-    (b"xA", 65),
-    (b"X[", 65),
-    (b"@A", 65),
-    (b"X", 65),
-    (b"", 65),
-    (b"XAB", 65),
-    (b"XAXA", 65),
-    (b"XA", 0),
-    (b"XA", 64),
-    (b"XA", 69),
-    (b"XA", 65 + 256),
-    (b"XA", 65 + 65_536),
-    (b"XA", u32::MAX),
-];
+/// Countries and classes that no device has, as `NO_HERTZ` are hertz that none has.
+const NO_COUNTRIES: [&[u8]; 7] = [b"xA", b"X[", b"@A", b"X", b"", b"XAB", b"XAXA"];
+const NO_CLASSES: [u32; 6] = [0, 64, 69, 65 + 256, 65 + 65_536, u32::MAX];
 
-/// An image with some pairs in some slots and noise in the free ones.
+/// A device with a setting that there is not.
+fn no_device<'a>(rng: &mut Rng, device: Device<'a>) -> Device<'a> {
+    match rng.below(3) {
+        0 => Device { country: NO_COUNTRIES[rng.below(NO_COUNTRIES.len())], ..device },
+        1 => Device { class: NO_CLASSES[rng.below(NO_CLASSES.len())], ..device },
+        _ => Device { hertz: NO_HERTZ[rng.below(NO_HERTZ.len())], ..device },
+    }
+}
+
+/// An image with some triples in some slots and noise in the free ones.
 fn scattered(rng: &mut Rng) -> Vec<u8> {
-    let (mut bytes, mut pairs) = (rng.bytes(STORE), devices().collect::<Vec<_>>());
+    let (mut bytes, mut triples) = (rng.bytes(STORE), devices().collect::<Vec<_>>());
     let fullness = 1 + rng.below(8);
     for slot in bytes.chunks_exact_mut(IMAGE) {
         slot[0] = 0;
         if rng.below(8) < fullness {
-            let Device { country, class } = pairs.swap_remove(rng.below(pairs.len()));
+            let Device { country, class, hertz } = triples.swap_remove(rng.below(triples.len()));
             let volts = [100, 259, 300, 1_000][class as usize - 65];
             let class = class_of(volts).expect("100 to 1000");
             let country = country.try_into().expect("two letters");
-            slot.copy_from_slice(&image(&Profile { country, class, volts, ..some_profile(rng) }));
+            slot.copy_from_slice(&image(&Profile { country, class, volts, hertz, ..some_profile(rng) }));
         }
     }
     bytes
@@ -92,14 +88,12 @@ struct Run<'a> {
 impl Run<'_> {
     fn load(&mut self, t: &mut Tally) {
         let Post { profile, key, package, due } = &self.posts[self.rng.below(self.posts.len())];
-        let (mut key, mut package, own) = (key.clone(), package.clone(), device_of(profile));
+        let (mut key, mut package, own) = (key.clone(), package.clone(), Device::of(profile));
         let device = match self.rng.below(16) {
-            0 | 1 => Device { country: COUNTRIES[self.rng.below(6)], ..own },
-            2 => Device { class: 65 + self.rng.below(4) as u32, ..own },
-            3 => {
-                let (country, class) = NO_DEVICES[self.rng.below(NO_DEVICES.len())];
-                Device { country, class }
-            }
+            0 => Device { country: COUNTRIES[self.rng.below(COUNTRIES.len())], ..own },
+            1 => Device { class: 65 + self.rng.below(4) as u32, ..own },
+            2 => Device { hertz: other_hertz(own.hertz), ..own },
+            3 => no_device(self.rng, own),
             _ => own,
         };
         let lengths = package_lengths(&self.sizes);
@@ -114,20 +108,19 @@ impl Run<'_> {
     }
 
     fn lookup(&mut self, t: &mut Tally) {
-        let class = 65 + self.rng.below(4) as u32;
-        let (country, class) = match self.rng.below(3) {
-            0 => NO_DEVICES[self.rng.below(NO_DEVICES.len())],
-            _ => (&COUNTRIES[self.rng.below(6)][..], class),
-        };
+        let mut device = devices().nth(self.rng.below(DEVICES)).expect("one of them");
+        if self.rng.below(3) == 0 {
+            device = no_device(self.rng, device);
+        }
         let room = if self.rng.below(2) == 0 { self.rng.below(100) } else { LONGEST };
-        self.both.lookup(t, &Device { country, class }, room);
+        self.both.lookup(t, &device, room);
     }
 }
 
-/// Runs of 50 calls, half of them from the empty store. After each call every pair is looked up.
+/// Runs of 50 calls, half of them from the empty store. After each call every triple is looked up.
 fn runs_at(category: &Category, runs: usize, posts: usize) {
     let [mut loads, mut lookups, mut finds] =
-        ["load, runs of calls", "lookup, runs of calls", "lookup, each pair after each call"]
+        ["load, runs of calls", "lookup, runs of calls", "lookup, each triple after each call"]
             .map(|what| category.tally(what));
     let (sizes, mut rng) = (category.sizes, Rng::new(0x7275_6E73));
     let (signer, other) = (Signer::new(category, &mut rng), Signer::new(category, &mut rng));
@@ -146,7 +139,7 @@ fn runs_at(category: &Category, runs: usize, posts: usize) {
     }
     loads.finish(40 * runs, &[0, 1, 3, 4, 5, 6, 7, 8, 10]);
     lookups.finish(4 * runs, &[0, 1, 9, 10]);
-    finds.finish(24 * 50 * runs, &[0, 9]);
+    finds.finish(DEVICES * 50 * runs, &[0, 9]);
 }
 
 #[test]

@@ -50,7 +50,7 @@ impl Packaged {
 /// A package made, and loaded into an empty store.
 pub fn rows(category: &'static Category, rng: &mut Rng, stacks: &Stacks) {
     let cases: Vec<Packaged> = (0..INPUTS).map(|_| Packaged::draw(category, rng)).collect();
-    let (first, device) = (&cases[0].signed, Device { country: b"XA", class: 66 });
+    let (first, device) = (&cases[0].signed, Device { country: b"XA", class: 66, hertz: 50 });
     let [mut out, mut other] = [(); 2].map(|()| vec![0; longest(category)]);
     let mut library = |at: usize| assert_eq!(make_by_library(&cases[at].signed, black_box(&mut out)).0, 0);
     let mut plain = |at: usize| assert_eq!(make_by_plain(&cases[at].signed, black_box(&mut other)).0, 0);
@@ -73,7 +73,7 @@ pub fn lookup(stacks: &Stacks) {
     let stored: [Profile; CAPACITY] = std::array::from_fn(|at| Profile { country: [b'X', b'A' + at as u8], ..profile });
     let image: Vec<u8> = stored.iter().flat_map(image).collect();
     let (mut out, mut other) = ([0; LONGEST], [0; LONGEST]);
-    let device = |at: usize| Device { country: &stored[at].country, class: u32::from(stored[at].class) };
+    let device = |at: usize| Device::of(&stored[at]);
     let mut library = |at: usize| assert_eq!(archive::lookup(&image, &device(at), black_box(&mut out), 0), (0, LINE));
     let mut plain = |at: usize| assert_eq!(store::lookup(&image, &device(at), black_box(&mut other), 0), (0, LINE));
     let times = least(CAPACITY, CAPACITY, &mut [&mut library, &mut plain]);

@@ -5,8 +5,8 @@ use crate::lines::{self, line};
 use crate::turn::{damaged, number, resized, size, Turn};
 use crate::world::Package;
 use peer::archive::c;
-use peer::line::cases::{some_rate, valid};
-use peer::line::{image, read_line, write_line, Profile, IMAGE, LONGEST, SHORTEST};
+use peer::line::cases::{other_hertz, some_rate, valid, NO_HERTZ};
+use peer::line::{image, meaning, read_line, write_line, Profile, IMAGE, LONGEST, SHORTEST};
 use peer::rng::Rng;
 use peer::sizes::Sizes;
 use peer::store::{self, package_lengths, Device, Store, CAPACITY};
@@ -42,7 +42,7 @@ fn compare_make_package(t: &mut Turn, seeds: &[Vec<u8>; 3], line: &[u8], room: u
     answer
 }
 
-/// A used slot of a pair that no package has: a valid profile, or what no load stores.
+/// A used slot of a triple that no package has: a valid profile, or what no load stores.
 fn slot(rng: &mut Rng, at: usize) -> [u8; IMAGE] {
     let mut slot = if rng.below(8) == 0 { lines::image(rng) } else { image(&valid(rng)) };
     slot[0] = [1, 1, 1, 0xFF][rng.below(4)];
@@ -53,16 +53,29 @@ fn slot(rng: &mut Rng, at: usize) -> [u8; IMAGE] {
     slot
 }
 
-/// A store's image: slots used or free, in any order, no pair in two of them, and mostly one for the
-/// pair of `profile`, with a serial that is less, equal or greater, and its rate point, another or none.
+/// The slot of `profile` itself, with a serial that is less, equal or greater, and its rate point, another or none.
+fn own_slot(rng: &mut Rng, profile: &Profile) -> [u8; IMAGE] {
+    let serial = [profile.serial - 1, profile.serial, profile.serial + 1][rng.below(3)];
+    let rate = [profile.rate, Some(some_rate(rng)), None][rng.below(3)];
+    image(&Profile { serial, rate, ..*profile })
+}
+
+/// A slot of its country and class, at the other hertz or at some that no grid has, with any serial.
+fn slot_beside(rng: &mut Rng, profile: &Profile) -> [u8; IMAGE] {
+    let hertz = [other_hertz(profile.hertz), NO_HERTZ[rng.below(NO_HERTZ.len())]][rng.below(2)];
+    image(&Profile { hertz, serial: number(rng), ..*profile })
+}
+
+/// A store's image: slots used or free, in any order, no triple in two of them. Mostly one is for the triple of
+/// `profile`, and often one for its country and class at other hertz.
 fn store_image(rng: &mut Rng, profile: &Profile) -> Vec<u8> {
-    let (filled, own) = (rng.below(3) * 8, rng.below(CAPACITY * 3 / 2));
+    let (filled, own, beside) = (rng.below(3) * 8, rng.below(CAPACITY * 3 / 2), rng.below(CAPACITY * 2));
     let mut bytes = Vec::new();
     for at in 0..CAPACITY {
         if at == own {
-            let serial = [profile.serial - 1, profile.serial, profile.serial + 1][rng.below(3)];
-            let rate = [profile.rate, Some(some_rate(rng)), None][rng.below(3)];
-            bytes.extend(image(&Profile { serial, rate, ..*profile }));
+            bytes.extend(own_slot(rng, profile));
+        } else if at == beside {
+            bytes.extend(slot_beside(rng, profile));
         } else if filled == CAPACITY || rng.below(CAPACITY) < filled {
             bytes.extend(slot(rng, at));
         } else {
@@ -74,14 +87,35 @@ fn store_image(rng: &mut Rng, profile: &Profile) -> Vec<u8> {
     bytes
 }
 
-/// A setting that no device has, or, by luck, one.
-fn no_device(rng: &mut Rng, country: &mut Vec<u8>, class: &mut u32) {
-    match rng.below(5) {
-        0 => *country = resized(rng, country, 0),
-        1 => *country = [&b"xA"[..], b"X[", b"@A", b"\0\0", b"A\xC3"][rng.below(5)].to_vec(),
-        2 => *class = [0, 64, 69, 97, *class + 256, *class + 65_536][rng.below(6)],
-        3 => *class = number(rng),
-        _ => *country = damaged(rng, country),
+/// What a device is set to.
+struct Setting {
+    country: Vec<u8>,
+    class: u32,
+    hertz: u32,
+}
+
+impl Setting {
+    fn of(profile: &Profile) -> Setting {
+        let Device { country, class, hertz } = Device::of(profile);
+        Setting { country: country.to_vec(), class, hertz }
+    }
+
+    fn device(&self) -> Device<'_> {
+        Device { country: &self.country, class: self.class, hertz: self.hertz }
+    }
+
+    /// Makes it one that no device has, or, by luck, one has.
+    fn lose(&mut self, rng: &mut Rng) {
+        let Setting { country, class, hertz } = self;
+        match rng.below(7) {
+            0 => *country = resized(rng, country, 0),
+            1 => *country = [&b"xA"[..], b"X[", b"@A", b"\0\0", b"A\xC3"][rng.below(5)].to_vec(),
+            2 => *class = [0, 64, 69, 97, *class + 256, *class + 65_536][rng.below(6)],
+            3 => *class = number(rng),
+            4 => *hertz = NO_HERTZ[rng.below(NO_HERTZ.len())],
+            5 => *hertz = number(rng),
+            _ => *country = damaged(rng, country),
+        }
     }
 }
 
@@ -90,8 +124,7 @@ struct Loading {
     image: Vec<u8>,
     key: Vec<u8>,
     package: Vec<u8>,
-    country: Vec<u8>,
-    class: u32,
+    setting: Setting,
 }
 
 /// Ends of the lengths that are looked at.
@@ -116,20 +149,22 @@ impl Loading {
                     self.key.clone_from(&other.key);
                     self.package.clone_from(&t.pick(&other.packages).bytes);
                 }
-                _ => no_device(&mut t.rng, &mut self.country, &mut self.class),
+                _ => self.setting.lose(&mut t.rng),
             }
         }
     }
 
-    /// Package or key damaged, or the device set to another country or class; half of them are left.
+    /// Package or key damaged, or the device set to another country or class or to the other hertz; almost half of
+    /// them are left.
     fn spoilt(&mut self, t: &mut Turn) {
         let (line, rng) = (t.sizes().signature(), &mut t.rng);
         match rng.below(16) {
             0..=3 => self.package = damaged(rng, &self.package),
             4 => self.package[line..][rng.below(SHORTEST)] ^= 1 << rng.below(8),
             5 => self.key = damaged(rng, &self.key),
-            6 => self.class = 65 + rng.below(4) as u32,
-            7 => self.country[rng.below(2)] = b'A' + rng.below(26) as u8,
+            6 => self.setting.class = 65 + rng.below(4) as u32,
+            7 => self.setting.country[rng.below(2)] = b'A' + rng.below(26) as u8,
+            8 => self.setting.hertz = other_hertz(self.setting.hertz),
             _ => (),
         }
     }
@@ -142,8 +177,7 @@ pub fn load(t: &mut Turn) -> u8 {
         image: store_image(&mut t.rng, profile),
         key: t.world.key.clone(),
         package: bytes.clone(),
-        country: profile.country.to_vec(),
-        class: u32::from(profile.class),
+        setting: Setting::of(profile),
     };
     if t.one_in(8) {
         input.spoilt(t);
@@ -154,43 +188,43 @@ pub fn load(t: &mut Turn) -> u8 {
 }
 
 fn compare_load(t: &mut Turn, input: &Loading) -> u8 {
-    let Loading { image, key, package, country, class } = input;
-    let (category, mut store, mut expected) = (t.world.category, t.lend(image), image.clone());
-    let lent = t.lend_all([key, package, country]);
+    let Loading { image, key, package, setting } = input;
+    let (device, category) = (setting.device(), t.world.category);
+    let (mut store, mut expected) = (t.lend(image), image.clone());
+    let lent = t.lend_all([key, package, device.country]);
     let [(a, b), (c, d), (e, f)] = lent.each_ref().map(|l| (l.pointer(), l.len()));
+    let (g, h) = (store.pointer_mut(), store.len());
     // SAFETY: as above.
-    let answer = unsafe { (category.functions.load)(store.pointer_mut(), store.len(), a, b, c, d, e, f, *class) };
-    let (s, device, verify) = (&category.sizes, Device { country, class: *class }, &category.plain.verify);
+    let answer = unsafe { (category.functions.load)(g, h, a, b, c, d, e, f, device.class, device.hertz) };
+    let (s, verify) = (&category.sizes, &category.plain.verify);
     let due = store::load(s, &mut expected, key, package, &device, verify);
-    assert_eq!(answer, due, "answer on {} for {country:?} {class}, store {}", shown(package), shown(image));
+    assert_eq!(answer, due, "answer on {} for {device:?}, store {}", shown(package), shown(image));
     lent.iter().for_each(|l| l.demand_unchanged());
     if answer == 0 {
         let [own, other] = [store.content(), &expected].map(|image| Store::from_image(image).sorted());
-        assert_eq!(own, other, "the store after a package for {country:?} {class}");
+        assert_eq!(own, other, "the store after a package for {device:?}");
         let profile = read_line(&package[s.signature()..]).expect("a line that was loaded");
-        assert!(
-            store::wrote_one_slot(image, store.content(), &profile),
-            "slots after a package for {country:?} {class}"
-        );
+        assert!(store::wrote_one_slot(image, store.content(), &profile), "slots after a package for {device:?}");
     } else {
         store.demand_unchanged();
     }
     answer
 }
 
-/// Any store, asked for one of its pairs, for another one, or for none that there is.
+/// Any store, asked for one of its triples, for another one, or for none that there is.
 pub fn lookup(t: &mut Turn) -> u8 {
     let profile = t.pick(&t.world.packages).profile;
     let image = store_image(&mut t.rng, &profile);
-    let slot = &image[t.rng.below(CAPACITY) * IMAGE..];
-    let (mut country, mut class) = (slot[1..3].to_vec(), u32::from(slot[3]));
+    let at = t.rng.below(CAPACITY) * IMAGE;
+    let mut setting = Setting::of(&meaning(image[at..at + IMAGE].try_into().expect("a slot")));
     match t.rng.below(8) {
-        0..=3 => (country, class) = (profile.country.to_vec(), u32::from(profile.class)),
-        4 => no_device(&mut t.rng, &mut country, &mut class),
+        0..=2 => setting = Setting::of(&profile),
+        3 => setting = Setting { hertz: other_hertz(profile.hertz), ..Setting::of(&profile) },
+        4 => setting.lose(&mut t.rng),
         _ => (),
     }
     let (image, room) = (resized(&mut t.rng, &image, 15), size(&mut t.rng, LONGEST, 15));
-    compare_lookup(t, &image, &Device { country: &country, class }, room)
+    compare_lookup(t, &image, &setting.device(), room)
 }
 
 fn compare_lookup(t: &mut Turn, image: &[u8], device: &Device, room: usize) -> u8 {
@@ -198,9 +232,9 @@ fn compare_lookup(t: &mut Turn, image: &[u8], device: &Device, room: usize) -> u
     let lent = t.lend_all([image, device.country]);
     let (mut out, mut length) = (t.lend(&expected), t.lend_length());
     let [(a, b), (c, d)] = lent.each_ref().map(|l| (l.pointer(), l.len()));
-    let (e, f) = (out.pointer_mut(), out.len());
+    let (e, f, g) = (out.pointer_mut(), out.len(), length.pointer_mut());
     // SAFETY: as above.
-    let answer = unsafe { c::gridprofile_lookup(a, b, c, d, device.class, e, f, length.pointer_mut()) };
+    let answer = unsafe { c::gridprofile_lookup(a, b, c, d, device.class, device.hertz, e, f, g) };
     let due = store::lookup(image, device, &mut expected, length.held);
     assert_eq!(
         (answer, length.value()),

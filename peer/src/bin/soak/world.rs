@@ -2,7 +2,7 @@
 
 use peer::archive::{Category, CATEGORIES};
 use peer::line::cases::{by_length, valid};
-use peer::line::{write_line, Profile, LONGEST, SHORTEST};
+use peer::line::{write_line, Profile, LONGEST, NOMINAL_HERTZ, SHORTEST};
 use peer::rng::Rng;
 use peer::scheme::cases::Committed;
 use peer::scheme::RoundCase;
@@ -70,11 +70,13 @@ fn rounds(s: &Sizes, rng: &mut Rng) -> [RoundCase; 2] {
     [0, 1].map(|second| committed.case(s, 1 + rng.below(126) as u8, second))
 }
 
-/// Profiles of countries with a second letter from A to J; the last have the shortest and the longest line of a kind.
+/// Profiles of countries with a second letter from A to J, each at both hertz; the last have the shortest and the
+/// longest line of a kind.
 fn profiles(rng: &mut Rng) -> Vec<Profile> {
-    let drawn = (0..20).map(|_| {
+    let drawn = (0..10).flat_map(|_| {
         let country = [b'A' + rng.below(26) as u8, b'A' + rng.below(10) as u8];
-        Profile { country, serial: 2 + rng.below(1_000) as u32, ..valid(rng) }
+        let profile = Profile { country, ..valid(rng) };
+        NOMINAL_HERTZ.map(|hertz| Profile { hertz, serial: 2 + rng.below(1_000) as u32, ..profile })
     });
     let ends = [false, true].map(by_length).map(|all| [all[0], all[all.len() - 1]]);
     drawn.chain(ends.concat()).collect()
