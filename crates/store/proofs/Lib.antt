@@ -3,6 +3,7 @@ pub mod StoredLaws
 pub mod SlotLaws
 pub mod PlaceLaws
 pub mod LookupLaws
+pub mod FoundLaws
 pub mod PutLaws
 pub mod Reached
 pub mod OneSlot

@@ -1,34 +1,18 @@
 -- What looking up answers in each case, under every class table. Assumes nothing.
-use mathlib.Core.Path.{_≡_, refl, _∙_, sym, ap, subst}
+use mathlib.Core.Path.{_≡_, refl, _∙_, sym, ap}
 use mathlib.Core.Bool.{Bool, true, false}
 use mathlib.Core.List.{List, []}
 use Prim.Native.Nat.{ℕ, _≤_, _<_}
 use native.Mathlib.Omega.{arith}
-use lib.ListN.{length}
-use borrow.Author.Tests.{eq-eqb, ne-eqb}
-use Rattle.outcome.specs.Answer.{not-stored, bad-device, Check, firstRefusal, pick, AnswersFront}
+use Rattle.outcome.specs.Answer.{not-stored, bad-device, firstRefusal, pick}
 use Rattle.outcome.specs.Result.{Result, done, refused, numberIn}
-use Rattle.outcome.proofs.Checks.{refused as one-refused}
 use Rattle.profile.specs.declared.Profile.{Profile}
 use Rattle.profile.specs.Rules.{Class}
-use Rattle.profile.specs.Line.{longest, writeChecks}
 use Rattle.image.specs.Image.{profileOf}
-use Rattle.image.specs.Entries.{WritesProfileLine}
-use Rattle.image.proofs.EntryLaws.{answers-as}
 use Rattle.store.specs.declared.Device.{Device}
-use Rattle.store.specs.Keys.{keyOf, deviceKey, sameKey, deviceOf, deviceOk}
-use Rattle.store.specs.Stored.{
-  capacity,
-  storeSize,
-  slotsOf,
-  slotBytes,
-  stored,
-  find,
-  isDone,
-  holding,
-  firstSlot,
-}
-use Rattle.store.specs.Calls.{lookupChecks, lookupIn, foundIn, foundLine, lookupLineChecks, LooksUp, Stores}
+use Rattle.store.specs.Keys.{keyOf, deviceKey, sameKey, deviceOk}
+use Rattle.store.specs.Stored.{capacity, slotsOf, slotBytes, stored, find, isDone, holding, firstSlot}
+use Rattle.store.specs.Calls.{lookupChecks, lookupIn, Stores}
 use Rattle.store.proofs.StoredLaws.{find-none}
 use Rattle.store.proofs.PlaceLaws.{held, held-none}
 
@@ -109,52 +93,3 @@ module _ (table : List Class) (image : List ℕ) (d : Device) (i : ℕ) (ok : de
 
   pub found-none : capacity ≤ i → refused not-stored ≡ lookupIn table d (stored image)
   found-none h = sym (lookup-nothing table d (stored image) ok (held-none (deviceKey d) image i first h))
-
--- ---- the answer, by the first check that fails
-
-module _ (table : List Class) (image country old : List ℕ) (class hertz before : ℕ) where
-  pub lookup-country : (length country ≡ 2 → ⊥) → LooksUp table image country class hertz old before 10 old before
-  lookup-country other =
-      record { answers = one-refused 9 (rw (ne-eqb (length country) 2 other)) refl; size = refl }
-
-  module _ (two : length country ≡ 2) where
-    pub lookup-device : deviceOk table (deviceOf country class hertz) ≡ false
-        → LooksUp table image country class hertz old before 10 old before
-    lookup-device bad =
-        record { answers = one-refused 9 (rw (eq-eqb (length country) 2 two, bad)) refl; size = refl }
-
-    module _ (set : deviceOk table (deviceOf country class hertz) ≡ true) where
-      pub lookup-store-size : (length image ≡ storeSize → ⊥)
-          → LooksUp table image country class hertz old before 1 old before
-      lookup-store-size other =
-          let first : firstRefusal (lookupLineChecks table image country class hertz old) ≡ 1 =
-          rw (eq-eqb (length country) 2 two, set, ne-eqb (length image) storeSize other) in
-          record { answers = one-refused 0 first refl; size = refl }
-
-      module _ (size : length image ≡ storeSize) where
-        pub lookup-line-size : (length old ≡ longest → ⊥)
-            → LooksUp table image country class hertz old before 1 old before
-        lookup-line-size other =
-            let first : firstRefusal (lookupLineChecks table image country class hertz old) ≡ 1 =
-            rw (eq-eqb (length country) 2 two, set, eq-eqb (length image) storeSize size)
-            (rw (ne-eqb (length old) longest other)) in
-            record { answers = one-refused 0 first refl; size = refl }
-
-        module _ (room : length old ≡ longest) where
-          pub lookup-none : refused not-stored ≡ foundIn table image country class hertz
-              → LooksUp table image country class hertz old before 9 old before
-          lookup-none none =
-              let first : firstRefusal (lookupLineChecks table image country class hertz old) ≡ 9 =
-              rw (eq-eqb (length country) 2 two, set, eq-eqb (length image) storeSize size)
-              (rw (eq-eqb (length old) longest room, ← none)) in
-              record { answers = one-refused 8 first refl; size = refl }
-
-          pub lookup-line : (p : Profile) {k after : ℕ} {new : List ℕ}
-              → done p ≡ foundIn table image country class hertz → WritesProfileLine table p old before k new after
-              → LooksUp table image country class hertz old before k new after
-          lookup-line p {k} {after} {new} found puts =
-              let checks : List Check = lookupLineChecks table image country class hertz old in
-              let same : firstRefusal (writeChecks table p old) ≡ firstRefusal checks =
-              rw (eq-eqb (length country) 2 two, set, eq-eqb (length image) storeSize size, ← found) in
-              subst (λ (l : List ℕ). AnswersFront checks l old before k new after) (ap foundLine found)
-              (record { answers = answers-as same (puts .answers); size = puts .size })

@@ -73,22 +73,33 @@ abbrev pub foundLine : Result Profile → List ℕ
 foundLine (done p) = lineOf p
 foundLine (refused r) = []
 
--- only an image that no run of the library made holds a profile that breaks a rule (crate package, `NoneBroken`)
-abbrev pub lookupLineChecks : List Class → List ℕ → List ℕ → ℕ → ℕ → List ℕ → List Check
-lookupLineChecks table image country class hertz old =
+-- What is asked for must exist; then come the sizes; then something must be found, and keep the rules: only an image
+-- that no run of the library made holds a profile that breaks one (crate package, `NoneBroken`).
+abbrev pub foundChecks : List Class → List ℕ → List ℕ → Bool → Result Profile → List ℕ → List Check
+foundChecks table image country exists found old =
     bad-device unless eqb (length country) 2
-    ∷ bad-device unless deviceOk table (deviceOf country class hertz)
+    ∷ bad-device unless exists
     ∷ bad-size unless eqb (length image) storeSize
     ∷ bad-size unless eqb (length old) longest
-    ∷ not-stored unless isDone (foundIn table image country class hertz)
-    ∷ bad-profile unless validIn table (foundIn table image country class hertz)
+    ∷ not-stored unless isDone found
+    ∷ bad-profile unless validIn table found
     ∷ []
 
 -- the line of what is found
+abbrev pub WritesFound : List Class → List ℕ → List ℕ → Bool → Result Profile → List ℕ → ℕ → ℕ → List ℕ → ℕ → Type 0
+WritesFound table image country exists found old =
+    AnswersFront (foundChecks table image country exists found old) (foundLine found) old
+
+abbrev pub lookupLineChecks : List Class → List ℕ → List ℕ → ℕ → ℕ → List ℕ → List Check
+lookupLineChecks table image country class hertz =
+    foundChecks table image country (deviceOk table (deviceOf country class hertz))
+    (foundIn table image country class hertz)
+
+-- the line of what a device finds
 abbrev pub LooksUp : List Class → List ℕ → List ℕ → ℕ → ℕ → List ℕ → ℕ → ℕ → List ℕ → ℕ → Type 0
-LooksUp table image country class hertz old =
-    AnswersFront (lookupLineChecks table image country class hertz old)
-    (foundLine (foundIn table image country class hertz)) old
+LooksUp table image country class hertz =
+    WritesFound table image country (deviceOk table (deviceOf country class hertz))
+    (foundIn table image country class hertz)
 
 -- ---- storing
 

@@ -32,7 +32,7 @@ pub record Step (c : Call) (ps qs : List Profile) : Type 0 where
   pub taken : answerTo c ps ≡ 0 → Stores (c .profile) ps qs
   pub kept : (answerTo c ps ≡ 0 → ⊥) → qs ≡ ps
 
--- `put` tests neither the profile nor the setting: its callers do, and call it with valid ones only
+-- `put` tests neither the rules of a profile nor the setting: its callers do, and call it with valid ones only
 pub record ValidCall (table : List Class) (c : Call) : Type 0 where
   pub profile : T (valid table (c .profile))
   pub device : deviceOk table (c .device) ≡ true

@@ -1,26 +1,19 @@
 -- `store::lookup` meets its contract: one check after the other, and then the line of what is found. Assumes nothing.
 use mathlib.Core.Path.{_≡_, _∙_, sym, ap}
-use mathlib.Core.Bool.{true}
+use mathlib.Core.Bool.{Bool, true}
 use native.Mathlib.Omega.{arith}
 use borrow.Author.Needs.{needs}
 use borrow.Author.Tests.{not-true, not-false}
-use Rattle.outcome.specs.Result.{done}
+use Rattle.outcome.specs.Result.{Result, done}
 use Rattle.profile.specs.declared.Profile.{Profile}
 use Rattle.profile.specs.Rules.{classes}
 use Rattle.store.specs.declared.Key.{Key}
 use Rattle.store.specs.Keys.{deviceOf, deviceKey, deviceOk}
 use Rattle.store.specs.Stored.{capacity, slotsOf, holding, firstSlot}
+use Rattle.store.specs.Calls.{foundIn}
 use Rattle.store.proofs.KeyLaws.{device-class-byte}
-use Rattle.store.proofs.LookupLaws.{
-  found-here,
-  found-none,
-  lookup-country,
-  lookup-device,
-  lookup-store-size,
-  lookup-line-size,
-  lookup-none,
-  lookup-line,
-}
+use Rattle.store.proofs.LookupLaws.{found-here, found-none}
+use Rattle.store.proofs.FoundLaws.{no-country, none-such, no-store, no-room, nothing-found, line-found}
 use Rattle.store.proofs.lookup.Statement.{statement}
 use Rattle.store.proofs.lookup.Tie as tie
 
@@ -28,7 +21,13 @@ use Rattle.store.proofs.lookup.Tie as tie
 abbrev entry : tie.After-device-ok → tie.Start
 entry c = c .before .before .before .before .before .before
 
--- whether the device is set to a country, class and hertz
+-- whether the device is set to a country, class and hertz, and what it finds
+abbrev exists : tie.Start → Bool
+exists c = deviceOk classes (deviceOf (c .args .country .now) (c .args .class) (c .args .hertz))
+
+abbrev found-by : tie.Start → Result Profile
+found-by c = foundIn classes (c .args .store .now) (c .args .country .now) (c .args .class) (c .args .hertz)
+
 answered : (c : tie.After-device-ok)
     → let a = entry c .args in
     c .device-ok .result ≡ deviceOk classes (deviceOf (a .country .now) (a .class) (a .hertz))
@@ -57,8 +56,9 @@ first found =
 
 returns : tie.Need-returns
 returns c =
-    let a = c .before .before .before .before .args in
-    lookup-country classes (a .store .now) (a .country .now) (a .out .now) (a .class) (a .hertz) (a .length .now)
+    let start = c .before .before .before .before in
+    let a = start .args in
+    no-country classes (a .store .now) (a .country .now) (a .out .now) (exists start) (found-by start) (a .length .now)
     (c .if1 .taken)
 
 device-of-requires : tie.Need-device-of-requires
@@ -70,23 +70,26 @@ device-ok-requires c κs = search needs
 returns-2 : tie.Need-returns-2
 returns-2 c =
     let asked = c .before in
-    let a = entry asked .args in
-    lookup-device classes (a .store .now) (a .country .now) (a .out .now) (a .class) (a .hertz) (a .length .now)
+    let start = entry asked in
+    let a = start .args in
+    none-such classes (a .store .now) (a .country .now) (a .out .now) (exists start) (found-by start) (a .length .now)
     (asked .before .before .if1 .left) (sym (answered asked) ∙ not-true _ (c .if2 .taken))
 
 returns-3 : tie.Need-returns-3
 returns-3 c =
     let set = c .before in
-    let a = entry (set .before) .args in
-    lookup-store-size classes (a .store .now) (a .country .now) (a .out .now) (a .class) (a .hertz) (a .length .now)
+    let start = entry (set .before) in
+    let a = start .args in
+    no-store classes (a .store .now) (a .country .now) (a .out .now) (exists start) (found-by start) (a .length .now)
     (set .before .before .before .if1 .left) (device-set set) (c .if3 .taken)
 
 returns-4 : tie.Need-returns-4
 returns-4 c =
     let sized = c .before in
     let set = sized .before in
-    let a = entry (set .before) .args in
-    lookup-line-size classes (a .store .now) (a .country .now) (a .out .now) (a .class) (a .hertz) (a .length .now)
+    let start = entry (set .before) in
+    let a = start .args in
+    no-room classes (a .store .now) (a .country .now) (a .out .now) (exists start) (found-by start) (a .length .now)
     (set .before .before .before .if1 .left) (device-set set) (sized .if3 .left) (c .if4 .taken)
 
 device-key-requires : tie.Need-device-key-requires
@@ -105,11 +108,13 @@ returns-5 c =
     let found = c .before in
     let room = found .before .before in
     let set = set-at found in
-    let a = entry (set .before) .args in
+    let start = entry (set .before) in
+    let a = start .args in
     let d = deviceOf (a .country .now) (a .class) (a .hertz) in
     let none = found-none classes (a .store .now) d _ (device-set set) (first found) (omega arith) in
-    lookup-none classes (a .store .now) (a .country .now) (a .out .now) (a .class) (a .hertz) (a .length .now)
-    (set .before .before .before .if1 .left) (device-set set) (room .before .if3 .left) (room .if4 .left) none
+    nothing-found classes (a .store .now) (a .country .now) (a .out .now) (exists start) (found-by start)
+    (a .length .now) (set .before .before .before .if1 .left) (device-set set) (room .before .if3 .left)
+    (room .if4 .left) none
 
 profile-at-requires : tie.Need-profile-at-requires
 profile-at-requires c κs = search needs
@@ -128,11 +133,12 @@ returns-6 c =
     let found = read .before .before in
     let room = found .before .before in
     let set = set-at found in
-    let a = entry (set .before) .args in
+    let start = entry (set .before) in
+    let a = start .args in
     let d = deviceOf (a .country .now) (a .class) (a .hertz) in
     let here = found-here classes (a .store .now) d _ (device-set set) (first found) (omega arith) in
     let it = ap (λ (p : Profile). done p) (read .profile-at .ensures) ∙ here in
-    lookup-line classes (a .store .now) (a .country .now) (a .out .now) (a .class) (a .hertz) (a .length .now)
+    line-found classes (a .store .now) (a .country .now) (a .out .now) (exists start) (found-by start) (a .length .now)
     (set .before .before .before .if1 .left) (device-set set) (room .before .if3 .left) (room .if4 .left) _ it
     (wrote .write-profile-line .ensures)
 
