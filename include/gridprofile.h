@@ -26,7 +26,8 @@ extern "C" {
 #define GRIDPROFILE_VERSION_MINOR 1
 #define GRIDPROFILE_VERSION_PATCH 0
 
-/* Answers. */
+/* Answers. gridprofile_nearest is asked for no class: there 9 is nothing stored under this country and
+ * hertz within reach of the measured volts, and 10 a country, hertz or volts that do not exist. */
 #define GRIDPROFILE_DONE 0
 #define GRIDPROFILE_BAD_SIZE 1        /* a buffer, message, line or package of a wrong length */
 #define GRIDPROFILE_SHORT_DRAW 2      /* a block yields too few numbers */
@@ -103,6 +104,10 @@ extern "C" {
 
 /* Slots of a store, each the image of a profile. */
 #define GRIDPROFILE_STORE_SLOTS 16
+
+/* Measured volts: the most that may be asked for, and how far from them nominal volts may be. */
+#define GRIDPROFILE_NEAREST_VOLTS_MAX 2000
+#define GRIDPROFILE_NEAREST_REACH 40
 
 /* Blocks that numbers are drawn from, in bytes. */
 #define GRIDPROFILE_MATRIX_BLOCK_BYTES 3500
@@ -309,6 +314,22 @@ uint8_t gridprofile_load(uint8_t *store, size_t store_len, const uint8_t *key, s
 uint8_t gridprofile_lookup(const uint8_t *store, size_t store_len, const uint8_t *country,
                            size_t country_len, uint32_t class_letter, uint32_t hertz,
                            uint8_t *line, size_t line_len, size_t *length);
+
+/* Writes the line of the stored profile that is nearest to measured volts, and its length, as
+ * gridprofile_write_line does: for a fitter who has a voltmeter and does not know the class. Of the
+ * profiles that a store has for a country (two letters) and the hertz of its network (50 or 60),
+ * whatever their class, it is the one whose nominal volts are nearest to the measured ones, at most
+ * GRIDPROFILE_NEAREST_REACH away; of two that are equally far the one with the lower nominal volts.
+ * It only suggests: nothing is loaded, and the store is only read. Refuses, in this order, with 10
+ * where country or hertz are none (a country of another length too; hertz and volts may be any
+ * numbers) or the volts are over GRIDPROFILE_NEAREST_VOLTS_MAX; with 1 where image or buffer have
+ * another length; with 9 where no profile of this country and hertz is within reach; with 5 where the
+ * nearest one breaks a rule, which is never so in an image of zeros or in what loads made of one.
+ * *length is then as it was.
+ * Stack: 384 bytes. */
+uint8_t gridprofile_nearest(const uint8_t *store, size_t store_len, const uint8_t *country,
+                            size_t country_len, uint32_t hertz, uint32_t volts, uint8_t *line,
+                            size_t line_len, size_t *length);
 
 #ifdef __cplusplus
 }

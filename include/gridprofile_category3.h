@@ -1,9 +1,9 @@
 /* Signed grid profiles at category 3: the sizes and functions that differ from category 1.
  *
  * A device is built for one category. What the category does not decide (answers, lines, images,
- * gridprofile_lookup, gridprofile_preview) stands in gridprofile.h, and what is said there of slices,
- * refusals and stack holds here too. Every function answers and refuses as the one of category 1 does
- * whose name it has, in the sizes below; its hash is SHAKE256. */
+ * gridprofile_lookup, gridprofile_nearest, gridprofile_preview) stands in gridprofile.h, and what is
+ * said there of slices, refusals and stack holds here too. Every function answers and refuses as the
+ * one of category 1 does whose name it has, in the sizes below; its hash is SHAKE256. */
 #ifndef GRIDPROFILE_CATEGORY3_H
 #define GRIDPROFILE_CATEGORY3_H
 

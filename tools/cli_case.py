@@ -78,6 +78,8 @@ LINE_77 = LONGEST_RATE.replace(b"4294967295", b"123")
 BAD_LINE = LINE.replace(b",50,", b",55,")
 # What a device is set to that takes the first of these lines, as words of a command; and one at 60 Hz.
 DEVICE, DEVICE_60 = ("XA", "B", "50"), ("XA", "B", "60")
+# What a fitter knows who has measured its volts.
+MEASURED = ("XA", "50", "230")
 
 # What has so many bytes, in the program's words.
 KINDS = {16: "a master seed of category 1", 24: "a master seed of category 3",
@@ -94,9 +96,9 @@ RIVALS = {size: KINDS[size].removesuffix(", or a profile line") for size in (48,
 made = {}
 
 
-def line_of(country="XA", letter="B", hertz=50, serial=12, rate=None):
-    """A line; with a rate point where there is a rate."""
-    volts = {"A": 120, "B": 230, "C": 400, "D": 690}[letter]
+def line_of(country="XA", letter="B", hertz=50, serial=12, rate=None, volts=None):
+    """A line; with a rate point where there is a rate, and usual volts of the class where none are told."""
+    volts = volts or {"A": 120, "B": 230, "C": 400, "D": 690}[letter]
     tag, point = ("GP1", "") if rate is None else ("GP2", f",{rate},500")
     trips = "1150,100,800,1500,1500,100,-2500,100"
     return f"{tag},{country},{letter},{serial},{volts},{hertz},{trips}{point}\n".encode()
@@ -133,6 +135,12 @@ REFUSALS = {1: ("size", "gridprofile help|--category|new-store"),
             8: ("16 profiles are stored, none of them for this country, class and hertz", "another store"),
             9: ("nothing is stored for this country, class and hertz", "load a package .* other hertz"),
             10: ("is not two letters .* or the hertz not 50 or 60", r"as in: XA B 50\.")}
+# The same of `nearest`, which is asked for no class.
+NEAREST_REFUSALS = {**REFUSALS,
+                    9: (r"no stored profile of [A-Z]{2} and [56]0 Hz is within 40 V of the measured \d+ V",
+                        "`gridprofile show STORE` lists what is stored"),
+                    10: ("(the country is not two letters A to Z|the hertz are not 50 or 60|"
+                         "the volts are not a whole number 0 to 2000)", r"0 to 2000, as in: XA 50 230\.")}
 
 # The seeds are named so that a seed is a file which only its owner can read; a category's number may stand behind.
 SECRET_NAMES = ("private", "master")
@@ -190,7 +198,7 @@ class Case(unittest.TestCase):
         ran = self.run_in(*words, **options)
         said = ran.stderr.decode()
         self.assertEqual(ran.returncode, number, (words, said))
-        meaning, advice = REFUSALS[number]
+        meaning, advice = (NEAREST_REFUSALS if words[0] == "nearest" else REFUSALS)[number]
         self.assertRegex(said, rf"refused with {number}: .*{meaning}.*\n(  .*\n)*  What to do: .*({advice})")
         self.assertEqual(ran.stdout, b"")
         self.assertEqual(self.look(), before, words)

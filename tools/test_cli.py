@@ -15,9 +15,9 @@ sys.dont_write_bytecode = True
 sys.path.insert(0, os.path.dirname(os.path.abspath(__file__)))
 from cli_case import (ARCHIVE, BAD_LINE, CATEGORIES, DAMAGED_STORE, DEVICE, DEVICE_60, FIFTH,  # noqa: E402
                       FILE_TROUBLE, FIRST, GIVEN, IMAGE, KINDS, LEAST_LINE, LINE, LINE_60, LINE_C, LONGEST,
-                      LONGEST_RATE, MASTER, MOST_LINE, NO_RANDOM_BYTES, PREVIEW, PRIVATE, PROFILE, PROGRAM, RATE_LINE,
-                      ROOT, SALT, SELF_CHECK_FAILED, SHORTEST, SHORTEST_RATE, SIGNATURE, STORE, THIRD, WRONG_USAGE,
-                      Case, device_of, fingerprint, line_of, sealed, shake)
+                      LONGEST_RATE, MASTER, MEASURED, MOST_LINE, NO_RANDOM_BYTES, PREVIEW, PRIVATE, PROFILE, PROGRAM,
+                      RATE_LINE, ROOT, SALT, SELF_CHECK_FAILED, SHORTEST, SHORTEST_RATE, SIGNATURE, STORE, THIRD,
+                      WRONG_USAGE, Case, device_of, fingerprint, line_of, sealed, shake)
 import test_cli_categories  # noqa: E402
 import test_cli_files  # noqa: E402
 import test_cli_lines  # noqa: E402
@@ -420,11 +420,11 @@ class Load(Case):
             self.refused(number, "load", "store", "key", self.put("bad", data), "XA", *more)
 
 
-def image_of(country="XA", hertz=50, serial=12, volts=230):
-    """The image of the profile that `line_of` has for class B, written here from docs/FORMATS.md."""
+def image_of(country="XA", hertz=50, serial=12, volts=230, letter="B"):
+    """The image of the profile that `line_of` has, written here from docs/FORMATS.md."""
     trips = (0, 1150, 100), (0, 800, 1500), (1, 1500, 100), (2, 2500, 100), (0, 0, 0)
     numbers = serial, volts, hertz, *itertools.chain(*trips)
-    return struct.pack("<B2sc18I", 1, country.encode(), b"B", *numbers)
+    return struct.pack("<B2sc18I", 1, country.encode(), letter.encode(), *numbers)
 
 
 class Damage(Case):
@@ -448,6 +448,7 @@ class Damage(Case):
         whole = self.get(self.store(LINE))
         for at in range(0, STORE, 7):
             self.damaged("lookup", self.put("bad", flip(whole, at, 1 << at % 8)), *DEVICE)
+            self.damaged("nearest", "bad", *MEASURED)
 
     def test_damaged_store_is_refused(self):
         whole = self.get(self.store(LINE))
@@ -463,7 +464,8 @@ class Damage(Case):
         image = self.get(self.store(LINE))[:IMAGE]
         load, lookup, show = self.readers("bare")
         self.put("bare", image)
-        for words, printed in ((lookup, LINE), (show, b"A store with 1 of 16 profiles.\n" + WORDS.encode())):
+        for words, printed in ((lookup, LINE), (["nearest", "bare", *MEASURED], suggestion(LINE, 230)),
+                               (show, b"A store with 1 of 16 profiles.\n" + WORDS.encode())):
             shown, said = self.warned(*words)
             self.assertEqual(shown, printed)
             self.assertIn("bare: this store has no checksum", said)
@@ -481,7 +483,8 @@ class Damage(Case):
             self.assertIn("the stored profile breaks a rule: the store is damaged", said)
             self.assertNotIn("correct the line", said)
             self.assertEqual(self.run_in("lookup", "bad", *DEVICE).stdout, LINE)
-            for words in (["lookup", "bad", "XC", "B", "50"], ["lookup", "bad", "XC", "B", "60"]):
+            for words in (["lookup", "bad", "XC", "B", "50"], ["lookup", "bad", "XC", "B", "60"],
+                          ["nearest", "bad", "XC", "50", "230"], ["nearest", "bad", "XC", "60", "230"]):
                 self.damaged(*words)
             load, _, show = self.readers("bad")
             self.assertIn(b"slot 2 holds what no load leaves there", self.damaged(*load).stderr)
@@ -574,12 +577,49 @@ class Damage(Case):
         for bad in (image.replace(b"\x01XAB", b"\x01XAZ"), image.replace(b"\x32\0\0\0", b"\x33\0\0\0")):
             self.damaged("lookup", self.put("bad", bad), *DEVICE)
 
+    def test_nearest_that_breaks_a_rule_is_5(self):
+        """With and without a checksum: volts that no class has, a class that does not fit the volts or is none, a
+        serial of 0. One that is further away does no harm."""
+        for volts, image in ((60, image_of(volts=99)), (1020, image_of(volts=1001, letter="D")),
+                             (262, image_of(volts=260)), (230, image_of(letter="Z")), (230, image_of(serial=0)),
+                             (0, image_of(volts=0)), (2000, image_of(volts=2040)), (40, image_of(volts=0))):
+            for data in (image.ljust(IMAGE, b"\0"), sealed(image.ljust(IMAGE, b"\0"))):
+                said = self.refused(5, "nearest", self.put("bad", data), "XA", "50", str(volts))
+                self.assertIn("the stored profile breaks a rule: the store is damaged\n", said)
+                self.assertNotIn("correct the line", said)
+        self.put("bad", sealed((image_of(volts=260) + image_of(serial=1)).ljust(IMAGE, b"\0")))
+        self.assertEqual(self.done("nearest", "bad", "XA", "50", "245"), suggestion(line_of(serial=1), 245))
+        self.refused(5, "nearest", "bad", "XA", "50", "246")
+
+    def test_nearest_that_finds_nothing_says_so_of_a_damaged_image(self):
+        """Whatever the damaged slot has to do with what is asked for. Volts do not go round the end of 32 bits."""
+        whole = image_of().ljust(IMAGE, b"\0")
+        for volts, bad in ((230, image_of("X1")), (230, image_of(hertz=51)), (230, image_of(volts=271)),
+                           (230, b"\0" + image_of()[1:]), (0, image_of(volts=2**32 - 1)),
+                           (30, image_of(volts=2**32 - 10)), (2000, image_of(volts=2**31 + 2000))):
+            for data in (bad.ljust(IMAGE, b"\0"), sealed(bad.ljust(IMAGE, b"\0")), whole[:-PROFILE] + bad):
+                country = "XB" if data.startswith(whole[:PROFILE]) else "XA"
+                self.damaged("nearest", self.put("bad", data), country, "50", str(volts))
+        self.refused(9, "nearest", self.put("good", whole), "XB", "50", "230")
+
+    def test_first_of_several_with_the_same_volts_is_the_nearest(self):
+        """No loads leave them: a class that stands twice, or one that does not fit its volts."""
+        for one, other in ((image_of(), image_of(serial=13)), (image_of(serial=13), image_of())):
+            self.put("bad", sealed((bytes(PROFILE) + image_of(volts=200) + one + other).ljust(IMAGE, b"\0")))
+            serial = struct.unpack_from("<I", one, 4)[0]
+            self.assertEqual(self.done("nearest", "bad", "XA", "50", "216"), suggestion(line_of(serial=serial), 216))
+        for one, other, answer in ((image_of(), image_of(letter="C"), 0), (image_of(letter="C"), image_of(), 5)):
+            self.put("bad", sealed((one + other).ljust(IMAGE, b"\0")))
+            self.assertEqual(self.run_in("nearest", "bad", *MEASURED).returncode, answer)
+
     def test_store_of_a_wrong_size_may_be_damaged(self):
         whole = self.get(self.store(LINE))
         for data in (whole[:1232], whole[:500], b"", whole + b"x"):
-            said = self.refused(1, "lookup", self.put("bad", data), *DEVICE)
-            self.assertIn("If it was a store, it is damaged", said)
-        self.assertNotIn("damaged", self.refused(1, "lookup", "key", *DEVICE))
+            self.put("bad", data)
+            for words in (["lookup", "bad", *DEVICE], ["nearest", "bad", *MEASURED]):
+                self.assertIn("If it was a store, it is damaged", self.refused(1, *words))
+        for words in (["lookup", "key", *DEVICE], ["nearest", "key", *MEASURED]):
+            self.assertNotIn("damaged", self.refused(1, *words))
 
 
 class Former(Case):
@@ -603,7 +643,7 @@ class Former(Case):
         self.package()
         for data in self.stores():
             self.put("old", data)
-            for command, *more in (("load", "key", "package", *DEVICE), ("lookup", *DEVICE)):
+            for command, *more in (("load", "key", "package", *DEVICE), ("lookup", *DEVICE), ("nearest", *MEASURED)):
                 for name, shown in (("old", "old"), ("-", "standard input")):
                     said = self.refused(1, command, name, *more, stdin=data)
                     self.assertEqual(said, self.told(command, shown, len(data)) + self.ADVICE)
@@ -622,6 +662,8 @@ class Former(Case):
         for device in (("XA", "E", "50"), ("XA", "B", "55")):
             self.refused(10, "load", "old", "key", "package", *device)
             self.refused(10, "lookup", "old", *device)
+        for measured in (("X", "50", "230"), ("XA", "55", "230"), ("XA", "50", "2001")):
+            self.refused(10, "nearest", "old", *measured)
 
     def test_other_files_of_a_wrong_size_are_named_too(self):
         self.package(category=THIRD), self.put("old", sealed(bytes(1024)))
@@ -666,6 +708,216 @@ class Lookup(Case):
         for size in (0, 1023, 1025, 1055, 1057, 1215, 1217, 1247, 1249):
             said = self.refused(1, "lookup", self.put("bad", bytes(size)), *DEVICE)
             self.assertIn("it must have 1248 or 1216\n", said)
+
+
+# Words for VOLTS that are none: over 2000, also those that cut to 32 or to 64 bits would be 230 or 0, and what is not
+# written as numbers are.
+NO_VOLTS = ("2001", "2300", "4294967295", "4294967296", "4294967526", "18446744073709551616", "18446744073709551846",
+            "99999999999999999999", "", "00", "0230", "+230", "-1", "-0", "-230", "230.5", "230.0", "230,5", " 230",
+            "230 ", "\t230", "230\n", "2 30", "230V", "0xE6", "2e2", "23O", "-", "--", "B", "\u0662\u0663\u0660")
+
+
+def suggestion(line, volts):
+    """What `nearest` prints of a line that it found: the line, and how far that is."""
+    letter, nominal = (line.decode().split(",")[at] for at in (2, 4))
+    away = int(nominal) - volts
+    side = "above" if away > 0 else "below"
+    where = f"{abs(away)} V {side} the measured {volts} V" if away else "the measured voltage"
+    return line + f"Class {letter}, {nominal} V nominal: {where}.\n".encode()
+
+
+def nearest_of(lines, country, hertz, volts):
+    """The line that docs/FORMATS.md chooses, written here in its words; or None."""
+    found = []
+    for line in lines:
+        fields = line.decode().split(",")
+        if (fields[1], fields[5]) == (country, hertz) and abs(int(fields[4]) - volts) <= 40:
+            found.append((abs(int(fields[4]) - volts), int(fields[4]), line))
+    return min(found)[2] if found else None
+
+
+class Nearest(Case):
+    def stored(self, *lines):
+        """A store with these lines, in this order, as loads could have left it."""
+        images = []
+        for line in lines:
+            _, country, letter, serial, volts, hertz = line.decode().split(",")[:6]
+            images.append(image_of(country, int(hertz), int(serial), int(volts), letter))
+        self.put("store", sealed(b"".join(images).ljust(IMAGE, b"\0")))
+
+    def found(self, line, *measured):
+        """It finds this line, says so, and changes no file."""
+        before = self.look()
+        self.assertEqual(self.done("nearest", "store", *map(str, measured)), suggestion(line, int(measured[-1])))
+        self.assertEqual(self.look(), before)
+
+    def asks(self, lines, *measured):
+        """It finds what the rule chooses of these lines."""
+        line = nearest_of(lines, *measured)
+        self.refused(9, "nearest", "store", *map(str, measured)) if line is None else self.found(line, *measured)
+
+    def test_what_it_prints(self):
+        """Of a store that was loaded; the first line as a lookup prints it."""
+        self.store(LINE, LINE_C, LINE_60)
+        for volts, where in ((237, b"7 V below the measured 237 V"), (223, b"7 V above the measured 223 V"),
+                             (230, b"the measured voltage"), (231, b"1 V below the measured 231 V"),
+                             (190, b"40 V above the measured 190 V"), (270, b"40 V below the measured 270 V")):
+            printed = self.done("nearest", "store", "XA", "50", str(volts))
+            self.assertEqual(printed, LINE + b"Class B, 230 V nominal: " + where + b".\n")
+            self.assertTrue(printed.startswith(self.done("lookup", "store", *DEVICE)))
+        self.assertEqual(self.done("nearest", "store", "XA", "50", "405"),
+                         LINE_C + b"Class C, 400 V nominal: 5 V below the measured 405 V.\n")
+        self.assertEqual(self.done("nearest", "store", "XA", "60", "229"),
+                         LINE_60 + b"Class B, 230 V nominal: 1 V above the measured 229 V.\n")
+
+    def worked(self):
+        """The lines of the table of docs/FORMATS.md, and each thing that it asks for with what answers."""
+        section = formats().split("Worked: a store holds the profiles of the lines\n")[1].split("\n## ")[0]
+        lines = [line.encode() for line in re.findall(r"^    (GP1,.*\n)", section, re.M)]
+        cases = []
+        for row in re.findall(r"^\| (`.*?) \| (.*?) \| ", section, re.M):
+            asked = [part.replace("`", "").split(", ") for part in re.split("; | and ", row[0])]
+            whole = [part if len(part) == 3 else [*asked[0][:2], *part] for part in asked]
+            answers = [re.sub(r"^the (\w+).*", r"\1", answer) for answer in row[1].split("; ")]
+            answers = answers * len(whole) if len(answers) == 1 else answers
+            cases += zip(whole, answers, strict=True)
+        return lines, cases
+
+    def test_worked_table(self):
+        """As it stands in the document, over a store that was loaded in any order."""
+        lines, cases = self.worked()
+        self.assertEqual((len(lines), len(cases)), (3, 14))
+        names = dict(zip(("first", "second", "third"), lines))
+        for order in itertools.permutations(lines):
+            self.store(*order)
+            for measured, answer in cases:
+                if answer in names:
+                    self.found(names[answer], *measured)
+                else:
+                    self.refused(int(answer), "nearest", "store", *measured)
+
+    def test_of_two_equally_far_the_lower_wins(self):
+        """In whichever slots, also where both are just within reach, and where a third is further away."""
+        for low, high, volts in ((230, 300, 265), (230, 310, 270), (259, 261, 260), (139, 141, 140), (519, 521, 520),
+                                 (100, 140, 120), (500, 580, 540)):
+            pair = [line_of(letter="ABCD"[(nominal > 139) + (nominal > 259) + (nominal > 519)], volts=nominal)
+                    for nominal in (low, high)]
+            further = line_of(letter="A", volts=100) if low > 139 else line_of(letter="D", volts=1000)
+            for lines in itertools.permutations([*pair, further]):
+                self.stored(*lines)
+                self.found(pair[0], "XA", "50", volts)
+                self.found(pair[0], "XA", "50", volts - 1)
+                self.found(pair[1], "XA", "50", volts + 1)
+
+    def test_reach(self):
+        """40 volts on either side and not 41, of the least and the greatest nominal volts of each class."""
+        for letter, nominal in zip("AABBCCDD", (100, 139, 140, 259, 260, 519, 520, 1000)):
+            line = line_of(letter=letter, volts=nominal)
+            self.stored(line)
+            for away in (-40, -39, -1, 0, 1, 39, 40):
+                self.found(line, "XA", "50", nominal + away)
+            for away in (-42, -41, 41, 42):
+                self.refused(9, "nearest", "store", "XA", "50", str(nominal + away))
+
+    def test_every_class_of_both_hertz(self):
+        """A full store, of two countries: what is asked for near each nominal voltage, and halfway to the next."""
+        volts = {("XA", 50): (120, 180, 260, 520), ("XA", 60): (100, 179, 261, 590), ("XB", 50): (139, 140, 300, 1000),
+                 ("XB", 60): (110, 259, 331, 666)}
+        lines = [line_of(country, letter, hertz, volts=nominal)
+                 for (country, hertz), four in volts.items() for letter, nominal in zip("ABCD", four)]
+        self.stored(*lines[::-1])
+        for (country, hertz), four in volts.items():
+            between = [(low + high) // 2 + more for low, high in zip(four, four[1:]) for more in (-1, 0, 1)]
+            near = [nominal + away for nominal in four for away in (-41, -40, 0, 40, 41)]
+            for measured in {*between, *near}:
+                self.asks(lines, country, str(hertz), measured)
+
+    def test_volts_that_may_be_measured(self):
+        """0 and 2000 are such, although nothing is stored near them."""
+        self.stored(line_of(letter="A", volts=100), line_of(letter="D", volts=1000))
+        for volts in (0, 1, 59, 1041, 1999, 2000):
+            said = self.refused(9, "nearest", "store", "XA", "50", str(volts))
+            self.assertEqual(said, "gridprofile nearest: refused with 9: no stored profile of XA and 50 Hz is within "
+                             f"40 V of the measured {volts} V\n  What to do: `gridprofile show STORE` lists what is "
+                             "stored, which may be for other hertz or further away.\n")
+
+    def test_volts_that_do_not_exist_are_10(self):
+        """After a word that ends the options, since some of them look like options."""
+        self.store(LINE)
+        for volts in NO_VOLTS:
+            said = self.refused(10, "nearest", "store", "XA", "50", "--", volts)
+            self.assertIn(": refused with 10: the volts are not a whole number 0 to 2000\n", said)
+        self.assertEqual(self.done("nearest", "store", "XA", "50", "--", "230"), suggestion(LINE, 230))
+
+    def test_hertz_that_do_not_exist_are_10(self):
+        self.store(LINE, LINE_60)
+        for hertz in NO_HERTZ:
+            said = self.refused(10, "nearest", "store", "XA", "--", hertz, "230")
+            self.assertIn(": refused with 10: the hertz are not 50 or 60\n", said)
+
+    def test_countries_that_do_not_exist_are_10(self):
+        self.store(LINE)
+        for country in ("", "X", "xa", "Xa", "XAA", "X1", "XA1", "XA ", " XA", "@A", "[A", "A@", "A[", "\u00c4",
+                        "XA\u00c4"):
+            said = self.refused(10, "nearest", "store", country, "50", "230")
+            self.assertIn(": refused with 10: the country is not two letters A to Z\n", said)
+
+    def test_10_says_which(self):
+        """Each that is wrong and no other, in the order of the words."""
+        country, hertz, volts = ("the country is not two letters A to Z", "the hertz are not 50 or 60",
+                                 "the volts are not a whole number 0 to 2000")
+        for measured, which in ((("xa", "60", "2000"), (country,)), (("XA", "55", "0"), (hertz,)),
+                                (("XA", "60", "2001"), (volts,)), (("xa", "55", "230"), (country, hertz)),
+                                (("xa", "50", "2001"), (country, volts)), (("XA", "230", "50.0"), (hertz, volts)),
+                                (("50", "XA", "B"), (country, hertz, volts))):
+            said = self.refused(10, "nearest", self.store(), *measured)
+            self.assertEqual(said, f"gridprofile nearest: refused with 10: {', and '.join(which)}\n  What to do: write "
+                             "COUNTRY as two letters A to Z, HERTZ as 50 or 60 and VOLTS as a whole number 0 to 2000, "
+                             "as in: XA 50 230.\n")
+
+    def test_nothing_near_is_9(self):
+        """An empty store, another country, and other hertz."""
+        self.refused(9, "nearest", self.store(), *MEASURED)
+        self.store(LINE)
+        for country, hertz in (("XA", "60"), ("XB", "50"), ("AX", "50"), ("YA", "50"), ("XB", "60")):
+            self.refused(9, "nearest", "store", country, hertz, "230")
+
+    def test_newer_profile_counts(self):
+        """With its own volts, and the older one is not found any more; a rate point comes with the line."""
+        newer = line_of(serial=13, rate=2000, volts=259)
+        self.store(LINE, newer)
+        self.found(newer, "XA", "50", 230)
+        self.found(newer, "XA", "50", 299)
+        self.refused(9, "nearest", "store", "XA", "50", "218")
+
+    def test_nothing_is_loaded(self):
+        """What is suggested is there as before, and so is its room: a load goes on as if nobody had asked."""
+        self.store(LINE)
+        before = self.get("store")
+        for volts in range(180, 281, 5):
+            self.asks([LINE], "XA", "50", volts)
+        self.assertEqual(self.get("store"), before)
+        self.refused(7, "load", "store", "key", "package", *DEVICE)
+
+    def test_10_comes_before_1_and_1_before_9(self):
+        for size in (0, IMAGE - 1, IMAGE + 1, STORE - 1, STORE + 1):
+            self.put("bad", bytes(size))
+            for measured in (("XA", "50", "2001"), ("XA", "55", "230"), ("X", "50", "230"), ("XA", "50", "")):
+                said = self.refused(10, "nearest", "bad", *measured)
+                self.assertEqual(len(said.splitlines()), 2, said)
+            said = self.refused(1, "nearest", "bad", *MEASURED)
+            self.assertIn("it must have 1248 or 1216\n", said)
+
+    def test_store_from_the_stream(self):
+        store = self.get(self.store(LINE))
+        self.assertEqual(self.done("nearest", "-", "XA", "50", "237", stdin=store), suggestion(LINE, 237))
+        printed, said = self.warned("nearest", "-", "XA", "50", "237", stdin=store[:IMAGE])
+        self.assertEqual(printed, suggestion(LINE, 237))
+        self.assertIn("warning: standard input: this store has no checksum", said)
+        self.refused(9, "nearest", "-", "XA", "60", "237", stdin=store)
+        ran = self.run_in("nearest", "-", *MEASURED, stdin=flip(store, 5))
+        self.assertEqual((ran.returncode, ran.stdout), (DAMAGED_STORE, b""))
+        self.assertIn(b"the store standard input is damaged: its checksum does not fit", ran.stderr)
 
 
 WORDS = """country XA, class B, 50 Hz, serial 12
@@ -848,7 +1100,7 @@ class Preview(Case):
 
 class Usage(Case):
     COUNTS = {"new-key": (2, 2), "key": (2, 2), "sign": (3, 3), "verify": (2, 2), "new-store": (1, 1), "load": (6, 6),
-              "lookup": (4, 4), "show": (1, 1), "preview": (0, 1)}
+              "lookup": (4, 4), "nearest": (4, 4), "show": (1, 1), "preview": (0, 1)}
 
     def test_help(self):
         shown = self.done("help").decode()
@@ -860,7 +1112,9 @@ class Usage(Case):
             self.assertRegex(shown, rf"(?m)^  {number:2}  \w")
         for number in (WRONG_USAGE, DAMAGED_STORE, SELF_CHECK_FAILED, NO_RANDOM_BYTES, FILE_TROUBLE):
             self.assertRegex(shown, rf"[;:]\s{number} ")
-        self.assertIn("\nCOUNTRY is two letters A to Z, CLASS one letter A to D, HERTZ 50 or 60.\n", shown)
+        self.assertIn("\nCOUNTRY is two letters A to Z, CLASS one letter A to D, HERTZ 50 or 60, VOLTS 0 to 2000.\n",
+                      shown)
+        self.assertIn("\nFor nearest, 9 is that no profile of COUNTRY and HERTZ is within 40 volts; 10 is ", shown)
 
     def test_help_of_a_command(self):
         for name in self.COUNTS:
@@ -868,6 +1122,15 @@ class Usage(Case):
             self.assertTrue(shown.startswith(f"usage: gridprofile {name} "), shown)
             for words in ([name, "--help"], [name, "-h"], [name, "a", "b", "--help"], [name, "--force", "-h"]):
                 self.assertEqual(self.done(*words).decode(), shown)
+
+    def test_help_of_nearest(self):
+        """It tells the rule, in lines that a terminal has room for."""
+        shown = self.done("help", "nearest").decode()
+        self.assertTrue(shown.startswith("usage: gridprofile nearest STORE COUNTRY HERTZ VOLTS\n\nPrint the stored "
+                                         "line nearest to measured VOLTS.\n"), shown)
+        for words in ("whatever their class", "most 40 away", "equally far the lower", "0 to 2000", "is loaded"):
+            self.assertIn(words, shown)
+        self.assertLessEqual(max(len(line) for line in shown.splitlines()), 100)
 
     def test_help_of_the_line(self):
         shown = self.done("help", "line").decode()
@@ -926,6 +1189,7 @@ class Usage(Case):
                       ["key", "private", "out", "--wait SECONDS]", "5"],
                       ["load", "store", "key", "package", *DEVICE, "--force"],
                       ["load", "store", "key", "package", "XA", "B", "-50"], ["lookup", "store", "XA", "B", "-50"],
+                      ["nearest", "store", "XA", "50", "-1"], ["nearest", "store", *MEASURED, "--force"],
                       ["verify", "key", "package", "--wait", "1"],
                       ["sign", "private", "line", "out", "--key"], ["sign", "private", "line", "out", "-x"],
                       ["sign", "private", "line", "out", "--key", "key", "--key", "key"]):
@@ -998,7 +1262,8 @@ class Readme(Case):
                              check=False, env={**os.environ, "TMPDIR": self.folder,
                                                "PATH": self.path("bin") + ":" + os.environ["PATH"]})
         self.assertEqual((ran.returncode, ran.stderr), (0, b""), ran.stdout)
-        for told in (b"\nDone: ", b"\n" + LINE, b"load answers 0\n", readme_shown()):
+        for told in (b"\nDone: ", b"\n" + LINE, b"load answers 0\n", readme_shown(),
+                     b"\n" + LINE + b"Class B, 230 V nominal: 7 V below the measured 237 V.\n"):
             self.assertIn(told, ran.stdout)
 
     def test_every_command_is_in_the_table(self):
@@ -1186,6 +1451,7 @@ class Demo(Case):
         for words in (b"\nAccepted: country XA, class B, 60 Hz, serial 1\nNothing was stored for ", b"refused with 6: ",
                       b"exit status 6\n", b"A store with 2 of 16 profiles.\n", RATE_WORDS.encode(), WORDS_60.encode(),
                       b" XA B 50\n" + RATE_LINE, b" XA B 60\n" + LINE_60,
+                      b"\n$ gridprofile nearest store XA 50 237\n" + suggestion(RATE_LINE, 237),
                       b"\n$ gridprofile verify key.5 xa-b.5.package --category 5\nThe signature holds", b"\nDone: "):
             self.assertIn(words, ran.stdout)
         self.assertEqual(self.names(), [])

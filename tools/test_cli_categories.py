@@ -6,8 +6,8 @@ import os
 import stat
 
 from cli_case import (CATEGORIES, DEVICE, DEVICE_60, FIFTH, FILE_TROUBLE, FIRST, GIVEN, IMAGE, KINDS, LEAST_LINE, LINE,
-                      LINE_60, LINE_77, LINE_C, LONGEST_RATE, MOST_LINE, RATE_LINE, RIVALS, ROOT, SHORTEST, STORE,
-                      THIRD, WRONG_USAGE, Case, device_of, fingerprint, line_of)
+                      LINE_60, LINE_77, LINE_C, LONGEST_RATE, MEASURED, MOST_LINE, RATE_LINE, RIVALS, ROOT, SHORTEST,
+                      STORE, THIRD, WRONG_USAGE, Case, device_of, fingerprint, line_of)
 from test_cli_lines import NO_LINE
 
 # Lines with the size of a seed of category 3 and of one of category 5.
@@ -116,6 +116,7 @@ class Each(Case):
             self.done("load", "store", self.key(category=category), self.package(line, category=category), *DEVICE,
                       *category.option())
             self.assertEqual(self.done("lookup", "store", *DEVICE), line)
+            self.assertTrue(self.done("nearest", "store", *MEASURED).startswith(line))
         self.done("load", "store", "key", self.package(LINE_C, category=THIRD), "XA", "C", "50", *THIRD.option())
         said = self.refused(7, "load", "store", self.key(category=FIFTH), self.package(lines[1], category=FIFTH),
                             *DEVICE, *FIFTH.option())
@@ -434,6 +435,7 @@ class LineOrKey(Case):
                              ("SALT", "sign", "private", "line", "out", *given[:5], "?"),
                              ("PACKAGE", "verify", "key", "?"), ("PACKAGE", "load", "store", "key", "?", *DEVICE),
                              ("STORE", "load", "?", "key", "package", *DEVICE), ("STORE", "lookup", "?", *DEVICE),
+                             ("STORE", "nearest", "?", *MEASURED),
                              ("KEY", "verify", "?", "package", *THIRD.option())):
             for name, kind in (("key", KINDS[77]), ("good", "a profile line"), ("bad", "a profile line")):
                 said = self.refused(1, *(name if word == "?" else word for word in words))
@@ -449,7 +451,8 @@ class LineOrKey(Case):
 class Option(Case):
     TAKES = {"new-key": ["fresh", "fresh.key"], "key": ["private", "out"], "sign": ["private", "line", "out"],
              "verify": ["key", "package"], "load": ["store", "key", "package", *DEVICE]}
-    OTHERS = {"new-store": ["fresh"], "lookup": ["store", *DEVICE], "show": ["key"], "preview": ["line"]}
+    OTHERS = {"new-store": ["fresh"], "lookup": ["store", *DEVICE], "nearest": ["store", *MEASURED], "show": ["key"],
+              "preview": ["line"]}
 
     def wrong(self, what, *words):
         said = self.troubled(WRONG_USAGE, *words).splitlines()

@@ -11,8 +11,8 @@ import subprocess
 import time
 import unittest
 
-from cli_case import (CATEGORIES, DAMAGED_STORE, DEVICE, FILE_TROUBLE, FIRST, GIVEN, IMAGE, LINE, PRIVATE, PROGRAM,
-                      STORE, WRONG_USAGE, Case, device_of, line_of, sealed)
+from cli_case import (CATEGORIES, DAMAGED_STORE, DEVICE, FILE_TROUBLE, FIRST, GIVEN, IMAGE, LINE, MEASURED, PRIVATE,
+                      PROGRAM, STORE, WRONG_USAGE, Case, device_of, line_of, sealed)
 
 NOBODY = 65534
 
@@ -75,7 +75,8 @@ class Streams(Case):
         lines = self.put("lines", LINE)
         with open("/dev/full", "wb") as full:
             for words in (["key", "private", "-"], SIGN, ["new-store", "-"], ["lookup", "store", *DEVICE],
-                          ["show", "package"], ["preview", lines], ["verify", "key", "package"],
+                          ["nearest", "store", *MEASURED], ["show", "package"], ["preview", lines],
+                          ["verify", "key", "package"],
                           ["load", "-", "key", "package", *DEVICE], ["help"], ["--version"], ["help", "sign"]):
                 self.troubled(FILE_TROUBLE, *words, stdin=EMPTY, stdout=full)
 
@@ -122,8 +123,8 @@ class Streams(Case):
         self.assertEqual(self.done("lookup", "store", *DEVICE), LINE)
 
     def test_reader_that_goes_away(self):
-        self.key(), self.package()
-        for words in (SIGN, ["show", "package"]):
+        self.key(), self.package(), self.store(LINE)
+        for words in (SIGN, ["show", "package"], ["nearest", "store", *MEASURED]):
             reading, writing = os.pipe()
             os.close(reading)
             with os.fdopen(writing, "wb") as gone:
@@ -131,7 +132,8 @@ class Streams(Case):
 
     def test_closed_streams_are_not_taken_for_files(self):
         self.key(), self.package(), self.store()
-        for stream, words in ((0, ["key", "-", "out"]), (1, ["key", "private", "-"]), (1, ["show", "package"])):
+        for stream, words in ((0, ["key", "-", "out"]), (0, ["nearest", "-", *MEASURED]), (1, ["key", "private", "-"]),
+                              (1, ["show", "package"]), (1, ["nearest", self.store(LINE, name="held"), *MEASURED])):
             self.troubled(FILE_TROUBLE, *words, stdin=None, preexec_fn=lambda at=stream: os.close(at))
         said = self.troubled(FILE_TROUBLE, "load", "store", "key", "-", *DEVICE, stdin=None,
                              preexec_fn=lambda: os.close(0))
@@ -153,8 +155,8 @@ class Inputs(Case):
         """Every command with a place for each input."""
         self.package(), self.store()
         whole = (["key", "private", "-"], SIGN, ["verify", "key", "package"],
-                 ["load", "store", "key", "package", *DEVICE], ["lookup", "store", *DEVICE], ["show", "package"],
-                 ["preview", "line"])
+                 ["load", "store", "key", "package", *DEVICE], ["lookup", "store", *DEVICE],
+                 ["nearest", "store", *MEASURED], ["show", "package"], ["preview", "line"])
         for words in whole:
             for at, word in enumerate(words[1:], 1):
                 if os.path.exists(self.path(word)):
@@ -186,6 +188,22 @@ class Inputs(Case):
             ran = subprocess.run(words, cwd=self.folder, capture_output=True, check=False, **unprivileged())
             self.assertEqual((ran.returncode, ran.stdout), (FILE_TROUBLE, b""), words)
             self.assertIn(b"shut: Permission denied", ran.stderr)
+
+    def test_store_that_may_not_be_written_is_read(self):
+        """In a folder that may not be written either, by somebody whom that binds; and nothing of it changes."""
+        program = shutil.copy(PROGRAM, self.path("program"))
+        os.mkdir(self.path("shut"))
+        shutil.copy(self.path(self.store(LINE)), self.path("shut/store"))
+        os.chmod(self.path("shut/store"), 0o444), os.chmod(self.path("shut"), 0o555)
+        before = self.get("shut/store"), os.stat(self.path("shut/store")), os.stat(self.path("shut"))
+        for status, words in ((0, ["lookup", "shut/store", *DEVICE]), (0, ["nearest", "shut/store", *MEASURED]),
+                              (9, ["nearest", "shut/store", "XA", "60", "230"]),
+                              (10, ["nearest", "shut/store", "XA", "50", "2001"]), (0, ["show", "shut/store"])):
+            ran = subprocess.run([program, *words], cwd=self.folder, capture_output=True, check=False, **unprivileged())
+            self.assertEqual((ran.returncode, ran.stderr == b""), (status, status == 0), ran.stderr)
+            after = self.get("shut/store"), os.stat(self.path("shut/store")), os.stat(self.path("shut"))
+            self.assertEqual([after[0], *(state.st_mtime_ns for state in after[1:])],
+                             [before[0], *(state.st_mtime_ns for state in before[1:])])
 
 
 class Outputs(Case):
@@ -587,6 +605,7 @@ class Secrets(Memory):
                 ["sign", "private", "line", "-", *given, "long"],
                 ["sign", "private", "line", "-", *given, "master"],
                 ["verify", "private", "package"], ["verify", "key", "private"], ["lookup", "private", *DEVICE],
+                ["nearest", "private", *MEASURED], ["nearest", "long", *MEASURED],
                 ["show", "long"], ["show", "private"], ["show", "master"], ["preview", "private"])
 
     def check_not_said(self, seeds, said, words):

@@ -14,8 +14,8 @@ import threading
 import time
 
 from cli_case import (ARCHIVE, CATEGORIES, DEVICE, FIFTH, FILE_TROUBLE, FIRST, GIVEN, IMAGE, KINDS, LINE, LINE_77,
-                      LINE_C, NO_RANDOM_BYTES, PRIVATE, PROGRAM, ROOT, SALT, SELF_CHECK_FAILED, SIGNATURE, STORE,
-                      WRONG_USAGE, Case, fingerprint, line_of, sealed, shake)
+                      LINE_C, MEASURED, NO_RANDOM_BYTES, PRIVATE, PROGRAM, ROOT, SALT, SELF_CHECK_FAILED, SIGNATURE,
+                      STORE, WRONG_USAGE, Case, fingerprint, line_of, sealed, shake)
 from test_cli_files import HIDDEN, NOBODY, READS_INPUT, WRITES_OUTPUT, Memory, call_of, hidden, wait_for
 
 EMPTY = sealed(bytes(IMAGE))
@@ -753,7 +753,8 @@ class Terminal(Case):
             self.assertIn(self.SHOWN, said, words)
             self.assertNotRegex(said, rb"[\x00-\x09\x0b-\x1f\x7f]|\xc2[\x80-\x9f]")
         os.rename(self.path("store"), self.path(os.fsdecode(self.NAME)))
-        self.assertIn(b"the store " + self.SHOWN + b" is damaged", self.run_in("lookup", self.NAME, *DEVICE).stderr)
+        for words in (["lookup", self.NAME, *DEVICE], ["nearest", self.NAME, *MEASURED]):
+            self.assertIn(b"the store " + self.SHOWN + b" is damaged", self.run_in(*words).stderr)
 
     def test_lines_are_said_whole(self):
         """So that what runs beside each other say is not mixed within a line."""
@@ -888,6 +889,7 @@ class Locks(Case):
         self.store(LINE)
         self.lock()
         self.assertEqual(self.done("lookup", "store", *DEVICE), LINE)
+        self.assertTrue(self.done("nearest", "store", *MEASURED).startswith(LINE))
         self.done("show", "store")
 
     def test_only_left_over_files_are_removed(self):
@@ -930,6 +932,7 @@ class SmallStack(Case):
             self.done("new-store", name + "store", **small)
             self.done("load", name + "store", "key", name + "package", *DEVICE, *option, **small)
             self.assertEqual(self.done("lookup", name + "store", *DEVICE, **small), LINE)
+            self.assertTrue(self.done("nearest", name + "store", *MEASURED, **small).startswith(LINE))
             self.done("show", name + "store", **small)
             self.assertIn(b"\nXA,B,50,12\n", self.done("preview", "line", **small))
 

@@ -264,6 +264,35 @@ static void expect_none(const char *name, const uint8_t *store, uint32_t class_l
     expect_length(written, 0);
 }
 
+/* What is nearest to measured volts: this line, or nothing where its length is 0. */
+static void expect_nearest(const char *name, const uint8_t *store, uint32_t hertz, uint32_t volts,
+                           int wanted, const char *text, size_t text_len)
+{
+    uint8_t out[GRIDPROFILE_LINE_MAX_BYTES] = {0}, bytes[GRIDPROFILE_LINE_MAX_BYTES] = {0};
+    size_t written = 0;
+    int answer = gridprofile_nearest(store, GRIDPROFILE_STORE_IMAGE_BYTES, country, sizeof country,
+                                     hertz, volts, out, sizeof out, &written);
+    memcpy(bytes, text, text_len);
+    expect("gridprofile_", name, answer, wanted, out, bytes, sizeof out);
+    expect_length(written, text_len);
+}
+
+/* The profiles of both hertz have 230 volts: from both ends of the reach each is the nearest. */
+static void nearest(const uint8_t *store)
+{
+    const uint32_t low = 230 - GRIDPROFILE_NEAREST_REACH, high = 230 + GRIDPROFILE_NEAREST_REACH;
+    expect_nearest("nearest", store, 50, low, GRIDPROFILE_DONE, rate_line, sizeof rate_line - 1);
+    expect_nearest("nearest", store, 60, high, GRIDPROFILE_DONE, other_hertz_line,
+                   sizeof other_hertz_line - 1);
+    expect_nearest("nearest to too few volts", store, 50, low - 1, GRIDPROFILE_NOT_STORED, "", 0);
+    expect_nearest("nearest to too many volts", store, 60, high + 1, GRIDPROFILE_NOT_STORED, "", 0);
+    expect_nearest("nearest to the most volts", store, 50, GRIDPROFILE_NEAREST_VOLTS_MAX,
+                   GRIDPROFILE_NOT_STORED, "", 0);
+    expect_nearest("nearest to no volts", store, 50, GRIDPROFILE_NEAREST_VOLTS_MAX + 1,
+                   GRIDPROFILE_BAD_DEVICE, "", 0);
+    expect_nearest("nearest at no hertz", store, 16, 230, GRIDPROFILE_BAD_DEVICE, "", 0);
+}
+
 /* The package of a line made, refused on a device of other hertz and on none that there is, loaded,
  * looked up, and refused the second time. */
 static void load_line(const struct category *c, uint8_t *store, uint32_t hertz, const char *text,
@@ -283,7 +312,7 @@ static void load_line(const struct category *c, uint8_t *store, uint32_t hertz, 
 }
 
 /* The second line replaces the first, and the third stands beside it; nothing is stored for another
- * class, nor for the other hertz before. */
+ * class, nor for the other hertz before. Of both that are left each is the nearest at its hertz. */
 static void loading(const struct category *c)
 {
     uint8_t store[GRIDPROFILE_STORE_IMAGE_BYTES] = {0};
@@ -295,6 +324,7 @@ static void loading(const struct category *c)
     expect_none("lookup of no hertz", store, 'B', 16, GRIDPROFILE_BAD_DEVICE);
     load_line(c, store, 60, other_hertz_line, sizeof other_hertz_line - 1);
     expect_line(store, 50, rate_line, sizeof rate_line - 1);
+    nearest(store);
 }
 
 int main(void)

@@ -19,10 +19,11 @@ static const char usual[] = "GP1,XA,B,12,230,50,1150,100,800,1500,1500,100,-2500
 static const char longest[] = "GP2,XA,D,4294967295,1000,60,1500,60000,999,60000,5000,60000,-5000,60000,10000,60000\n";
 _Static_assert(sizeof longest - 1 == GRIDPROFILE_LINE_MAX_BYTES, "no line is longer");
 
-/* The line that the jobs run with, and its hertz. Both are for the country `XA`, and byte 7 of a line is its class. */
+/* The line that the jobs run with, its hertz and its volts. Both lines are for the country `XA`, and byte 7 of a line
+ * is its class. */
 static const uint8_t *line;
 static size_t line_len;
-static uint32_t hertz;
+static uint32_t hertz, volts;
 static const uint8_t country[2] = {'X', 'A'};
 #define CLASS line[7]
 static uint8_t message[GRIDPROFILE_LINE_MAX_BYTES], profile[GRIDPROFILE_PROFILE_IMAGE_BYTES];
@@ -79,7 +80,7 @@ BUFFERS(category5_, CATEGORY5_)
     DO(c, load, 0,                                                                                                     \
        (ALL(c##lent.store), ALL(c##lent.key), c##lent.package, c##lent.package_len, ALL(country), CLASS, hertz))
 
-/* Those that no category decides; the lookup is in what the load of category 1 stored. */
+/* Those that no category decides; lookup and nearest are in what the loads of category 1 stored. */
 #define OF_NONE(DO)                                                                                                    \
     DO(, pack_values, 0, (ALL(numbers), ALL(packed_values)))                                                           \
     DO(, unpack_values, 0, (ALL(packed_values), ALL(numbers)))                                                         \
@@ -88,7 +89,8 @@ BUFFERS(category5_, CATEGORY5_)
     DO(, read_line, 0, (line, line_len, ALL(profile)))                                                                 \
     DO(, write_line, 0, (ALL(profile), ALL(found), &length))                                                           \
     DO(, preview, 0, (line, line_len, ALL(listing), &length))                                                          \
-    DO(, lookup, 0, (ALL(lent.store), ALL(country), CLASS, hertz, ALL(found), &length))
+    DO(, lookup, 0, (ALL(lent.store), ALL(country), CLASS, hertz, ALL(found), &length))                                \
+    DO(, nearest, 0, (ALL(lent.store), ALL(country), hertz, volts, ALL(found), &length))
 
 #define JOB(c, name, answer, call)                                                                                     \
     static void c##name(void)                                                                                          \
@@ -144,11 +146,12 @@ static struct {
 };
 #define JOBS (sizeof jobs / sizeof *jobs)
 
-static void run_all(const char *text, uint32_t its_hertz)
+static void run_all(const char *text, uint32_t its_hertz, uint32_t its_volts)
 {
     line = (const uint8_t *)text;
     line_len = strlen(text);
     hertz = its_hertz;
+    volts = its_volts;
     for (size_t at = 0; at < JOBS; at++) {
         size_t bytes = used(jobs[at].job);
         if (bytes > jobs[at].most)
@@ -159,8 +162,8 @@ static void run_all(const char *text, uint32_t its_hertz)
 int main(void)
 {
     size_t base = used(nothing);
-    run_all(usual, 50);
-    run_all(longest, 60);
+    run_all(usual, 50, 230);
+    run_all(longest, 60, 1000);
     for (size_t at = 0; at < JOBS; at++)
         printf("%s %zu\n", jobs[at].name, jobs[at].most - base);
     return 0;

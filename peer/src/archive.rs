@@ -6,7 +6,7 @@ pub mod samples;
 
 pub use category::{Category, CATEGORIES, CATEGORY_1, CATEGORY_3, CATEGORY_5};
 
-use crate::store::Device;
+use crate::store::{Device, Measured};
 
 macro_rules! entries {
     ($($name:ident is $symbol:ident;)*) => {
@@ -57,5 +57,14 @@ pub fn lookup(store: &[u8], device: &Device, line: &mut [u8], mut length: usize)
     let (e, f) = (line.as_mut_ptr(), line.len());
     // SAFETY: as above.
     let answer = unsafe { c::gridprofile_lookup(a, b, c, d, device.class, device.hertz, e, f, &mut length) };
+    (answer, length)
+}
+
+/// Answer and length, as `write_line` gives them.
+pub fn nearest(store: &[u8], measured: &Measured, line: &mut [u8], mut length: usize) -> (u8, usize) {
+    let [(a, b), (c, d)] = [store, measured.country].map(|s| (s.as_ptr(), s.len()));
+    let (e, f) = (line.as_mut_ptr(), line.len());
+    // SAFETY: as above.
+    let answer = unsafe { c::gridprofile_nearest(a, b, c, d, measured.hertz, measured.volts, e, f, &mut length) };
     (answer, length)
 }

@@ -10,7 +10,8 @@ pub const LONGEST: usize = 84;
 /// Bytes of an image.
 pub const IMAGE: usize = 76;
 
-/// Where the hertz stand in an image, four bytes, and the rate point.
+/// Where the volts and the hertz stand in an image, four bytes each, and the rate point.
+pub const VOLTS: usize = 8;
 pub const HERTZ: usize = 12;
 pub const RATE: usize = 64;
 
@@ -173,7 +174,7 @@ pub fn meaning(image: &[u8; IMAGE]) -> Profile {
         country: [image[1], image[2]],
         class: image[3],
         serial: word(4),
-        volts: word(8),
+        volts: word(VOLTS),
         hertz: word(HERTZ),
         trips: [trip(16), trip(28), trip(40), trip(52)],
         rate: (word(RATE) != 0).then(|| Rate { limit: word(RATE + 4), delay: word(RATE + 8) }),

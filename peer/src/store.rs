@@ -1,5 +1,9 @@
 //! The profiles that a device holds, packages, and the loader.
 
+mod nearest;
+
+pub use nearest::{nearest, Measured, MEASURED_MAX, REACH};
+
 use crate::line::{
     class_of, image, is_country, meaning, read_line, write_line, Profile, HERTZ, IMAGE, LONGEST, NOMINAL_HERTZ,
     SHORTEST,

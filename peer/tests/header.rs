@@ -126,6 +126,8 @@ fn expected() -> BTreeMap<String, usize> {
         ("LISTING_BYTES", preview::LISTING),
         ("STORE_IMAGE_BYTES", store::STORE),
         ("STORE_SLOTS", store::CAPACITY),
+        ("NEAREST_VOLTS_MAX", store::MEASURED_MAX as usize),
+        ("NEAREST_REACH", store::REACH as usize),
         ("BAD_SIZE", usize::from(refusal::BAD_SIZE)),
         ("SHORT_DRAW", usize::from(refusal::SHORT_DRAW)),
         ("BAD_FIELD", usize::from(refusal::BAD_FIELD)),

@@ -4,7 +4,6 @@
 #include "program.h"
 
 #include <inttypes.h>
-#include <stdlib.h>
 #include <string.h>
 
 static uint8_t store[STORE_FILE_BYTES + 1];
@@ -34,22 +33,13 @@ static uint32_t class_number(const char *text)
     return strlen(text) == 1 ? (uint8_t)text[0] : 0;
 }
 
-/* A number that is too great for the type is read as the greatest, which is too great here as well. */
-static uint32_t hertz_number(const char *text)
-{
-    unsigned long long value = strtoull(text, NULL, 10);
-    if (text[0] == '0' || text[strspn(text, "0123456789")] != '\0' || value > UINT32_MAX)
-        return 0;
-    return (uint32_t)value;
-}
-
 /* COUNTRY, CLASS and HERTZ. A class is one letter, and hertz are a decimal number without sign, spaces
  * or leading zeros; any other text is 0, which is no class and no hertz, so that the library refuses it
  * as it refuses every other setting that does not exist. */
 static struct device read_device(char *const *words)
 {
     return (struct device){(const uint8_t *)words[0], strlen(words[0]), class_number(words[1]),
-                           hertz_number(words[2])};
+                           decimal_of(words[2], 0)};
 }
 
 static int look_up(const struct device *device, size_t store_length, uint8_t *line, size_t *length)
@@ -116,15 +106,13 @@ static int refuse_serial(const struct request *request, const struct device *dev
 
 /* The store is read under the lock, and nothing else is: what comes by a stream can take long. A load
  * puts a fresh checksum over the whole, so that what is damaged must be seen before. */
-static int read_store(struct output *output, struct input *read)
+static int read_locked(struct output *output, struct input *read)
 {
     int status = lock_output(output);
     if (!is_stream(output->path))
         read->target = output->target;
     if (status == 0)
-        status = read_inputs(read, 1);
-    if (status == 0)
-        status = open_store(read);
+        status = read_store(read);
     if (status == 0 && read->length == GRIDPROFILE_STORE_IMAGE_BYTES)
         status = check_slots(read);
     return status;
@@ -158,7 +146,7 @@ int run_load(const struct request *request)
     if (status == 0)
         status = read_inputs(inputs + 1, COUNT(inputs) - 1);
     if (status == 0)
-        status = read_store(&output, inputs);
+        status = read_locked(&output, inputs);
     if (status != 0)
         return status;
     memcpy(before, store, sizeof before);
@@ -178,19 +166,13 @@ int run_lookup(const struct request *request)
     struct device device = read_device(request->arguments + 1);
     uint8_t line[GRIDPROFILE_LINE_MAX_BYTES];
     size_t length = 0;
-    int status = read_inputs(inputs, COUNT(inputs)), answer;
-    if (status == 0)
-        status = open_store(&inputs[0]);
+    int status = read_store(inputs), answer;
     if (status != 0)
         return status;
     answer = look_up(&device, inputs[0].length, line, &length);
-    if (answer == GRIDPROFILE_NOT_STORED && check_slots(&inputs[0]) != 0)
-        return DAMAGED_STORE;
-    if (answer == GRIDPROFILE_BAD_PROFILE)
-        return refused_because(request->command, answer,
-                               "the stored profile breaks a rule: the store is damaged",
-                               "take a copy of the store from before, or make a new one by "
-                               "`gridprofile new-store` and load the newest packages again");
+    status = blame_store(request->command, answer, inputs);
+    if (status != 0)
+        return status;
     if (answer != 0)
         return refused(request->command, answer, inputs, COUNT(inputs), NULL, 0);
     (void)fwrite(line, 1, length, stdout);

@@ -17,8 +17,8 @@ static const struct command commands[] = {
     {"new-key", 2, 2, 1, run_new_key}, {"key", 2, 2, 1, run_key},
     {"sign", 3, 3, 1, run_sign},       {"verify", 2, 2, 0, run_verify},
     {"new-store", 1, 1, 1, run_new_store}, {"load", 6, 6, 1, run_load},
-    {"lookup", 4, 4, 0, run_lookup},   {"show", 1, 1, 0, run_show},
-    {"preview", 0, 1, 0, run_preview},
+    {"lookup", 4, 4, 0, run_lookup},   {"nearest", 4, 4, 0, run_nearest},
+    {"show", 1, 1, 0, run_show},       {"preview", 0, 1, 0, run_preview},
 };
 
 static const struct command *find_command(const char *name)

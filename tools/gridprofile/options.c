@@ -106,6 +106,17 @@ int asks_help(char **words)
     return 0;
 }
 
+/* Without sign, spaces or leading zeros, and of 32 bits. A number that is too great for the type is read
+ * as the greatest, which is too great here as well. */
+uint32_t decimal_of(const char *text, uint32_t otherwise)
+{
+    unsigned long long value = strtoull(text, NULL, 10);
+    size_t digits = strspn(text, "0123456789");
+    if (digits == 0 || text[digits] != '\0' || (text[0] == '0' && digits > 1) || value > UINT32_MAX)
+        return otherwise;
+    return (uint32_t)value;
+}
+
 /* Options may stand anywhere; after a word `--` every word is an argument. */
 int read_request(struct request *request, char **words)
 {

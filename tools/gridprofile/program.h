@@ -112,8 +112,10 @@ struct output {
     int lock;              /* the locked folder, or -1 */
 };
 
-/* options.c: sorts words into a request; answers 0, or the exit status after saying what is wrong. */
+/* options.c: sorts words into a request; answers 0, or the exit status after saying what is wrong.
+ * `decimal_of` is the number of an argument, or another one where the text is none. */
 int read_request(struct request *request, char **words);
+uint32_t decimal_of(const char *text, uint32_t otherwise);
 int is_help(const char *word);
 int asks_help(char **words);
 
@@ -184,6 +186,7 @@ void explain_line(FILE *to, const uint8_t *bytes, size_t length);
 
 /* words.c: prints a profile's image, or answers 5 where it breaks a rule. */
 uint32_t serial_of(const uint8_t *image);
+uint32_t volts_of(const uint8_t *image);
 uint32_t hertz_of(const uint8_t *image);
 void print_device(FILE *to, const uint8_t *image);
 int print_profile(const uint8_t *image);
@@ -192,15 +195,18 @@ int print_profile(const uint8_t *image);
 void print_fingerprint(FILE *to, const struct category *category, const uint8_t *key);
 
 /* store_file.c: a store's image with its checksum behind it. `open_store` looks at what was read and
- * sets the length to the image's where there is one, `check_slots` at what the image holds; each
- * answers 0 or the exit status. `is_same_triple` tells whether two profiles are for one country, class
- * and hertz: a store has one for each. */
+ * sets the length to the image's where there is one, `read_store` also reads it, `check_slots` looks at
+ * what the image holds, `blame_store` at whether that is why a search in it failed; each answers 0 or
+ * the exit status. `is_same_triple` tells whether two profiles are for one country, class and hertz: a
+ * store has one for each. */
 #define CHECKSUM_BYTES 32
 #define STORE_FILE_BYTES (GRIDPROFILE_STORE_IMAGE_BYTES + CHECKSUM_BYTES)
 struct input store_input(const char *path, uint8_t *bytes);
 int open_store(struct input *store);
+int read_store(struct input *store);
 void seal_store(uint8_t *bytes);
 int check_slots(const struct input *store);
+int blame_store(const char *command, int answer, const struct input *store);
 int is_same_triple(const uint8_t *one, const uint8_t *other);
 
 /* verify.c: the loader's answers 1 to 5, in its order, for any device and any store. */
@@ -221,6 +227,7 @@ int run_verify(const struct request *request);
 int run_new_store(const struct request *request);
 int run_load(const struct request *request);
 int run_lookup(const struct request *request);
+int run_nearest(const struct request *request);
 int run_show(const struct request *request);
 int run_preview(const struct request *request);
 

@@ -35,6 +35,12 @@ int open_store(struct input *store)
     return 0;
 }
 
+int read_store(struct input *store)
+{
+    int status = read_inputs(store, 1);
+    return status != 0 ? status : open_store(store);
+}
+
 void seal_store(uint8_t *bytes)
 {
     make_checksum(bytes, bytes + GRIDPROFILE_STORE_IMAGE_BYTES);
@@ -97,4 +103,17 @@ int check_slots(const struct input *store)
         return 0;
     (void)snprintf(how, sizeof how, "slot %zu holds what no load leaves there", slot);
     return damaged_store(input_name(store), how);
+}
+
+/* Where nothing is found, what should be may stand in a slot that is damaged. */
+int blame_store(const char *command, int answer, const struct input *store)
+{
+    if (answer == GRIDPROFILE_NOT_STORED)
+        return check_slots(store);
+    if (answer == GRIDPROFILE_BAD_PROFILE)
+        return refused_because(command, answer,
+                               "the stored profile breaks a rule: the store is damaged",
+                               "take a copy of the store from before, or make a new one by "
+                               "`gridprofile new-store` and load the newest packages again");
+    return 0;
 }

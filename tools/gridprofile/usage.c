@@ -46,6 +46,12 @@ static const struct page pages[] = {
      "built for one category; a store file takes packages of each.\n"},
     {"lookup", "STORE COUNTRY CLASS HERTZ", "", "print the line stored for COUNTRY, CLASS and HERTZ",
      "A profile is found under its own hertz alone.\n"},
+    {"nearest", "STORE COUNTRY HERTZ VOLTS", "", "print the stored line nearest to measured VOLTS",
+     "For a fitter who has a voltmeter and does not know the class. Of the stored profiles of COUNTRY\n"
+     "and HERTZ, whatever their class, it takes the one whose nominal volts are nearest to VOLTS, at\n"
+     "most 40 away, and of two that are equally far the lower. A second line says the class, the\n"
+     "nominal volts, and how far they are above or below. VOLTS is a whole number 0 to 2000.\n"
+     "It only suggests: nothing is loaded, and the store is only read.\n"},
     {"show", "FILE", "", "print a package, a store, a line or a key in words",
      "It verifies nothing. Of a key or a package it says the category. Of a key it prints the\n"
      "fingerprint: 16 bytes of SHAKE128 of the key at category 1, 24 and 32 of SHAKE256 at 3 and 5.\n"
@@ -75,7 +81,7 @@ static const char *const files =
     "  SALT     as many bytes as a private seed\n"
     "  LINE     one profile line, 42 to 84 bytes with its line feed (`gridprofile help line`)\n"
     "  STORE    16 profiles and a checksum, 1248 bytes; 1216 without the checksum\n"
-    "COUNTRY is two letters A to Z, CLASS one letter A to D, HERTZ 50 or 60.\n"
+    "COUNTRY is two letters A to Z, CLASS one letter A to D, HERTZ 50 or 60, VOLTS 0 to 2000.\n"
     "\n"
     "A file is written whole or not at all; after a refusal it is as it was.\n"
     "\n"
@@ -149,6 +155,8 @@ void print_usage(FILE *to)
     fputs(options, to);
     fputs(files, to);
     print_refusals(to);
+    fputs("For nearest, 9 is that no profile of COUNTRY and HERTZ is within 40 volts; 10 is for VOLTS "
+          "too.\n", to);
 }
 
 int print_help(const char *command)

@@ -14,6 +14,11 @@ uint32_t serial_of(const uint8_t *image)
     return number(image + GRIDPROFILE_SERIAL_OFFSET);
 }
 
+uint32_t volts_of(const uint8_t *image)
+{
+    return number(image + GRIDPROFILE_VOLTS_OFFSET);
+}
+
 uint32_t hertz_of(const uint8_t *image)
 {
     return number(image + GRIDPROFILE_HERTZ_OFFSET);
@@ -60,7 +65,7 @@ static void print_rate(const char *name, const uint8_t *trip)
 int print_profile(const uint8_t *image)
 {
     uint8_t line[GRIDPROFILE_LINE_MAX_BYTES];
-    uint32_t volts = number(image + GRIDPROFILE_VOLTS_OFFSET);
+    uint32_t volts = volts_of(image);
     uint32_t hertz = hertz_of(image);
     size_t length = 0;
     int answer =

@@ -9,6 +9,7 @@ ghost use Rattle.packing.specs.Packing.{PacksValues, UnpacksValues, PacksExpone
 ghost use Rattle.profile.specs.Rules.{classes};
 ghost use Rattle.image.specs.Entries.{ReadsImage, WritesImage};
 ghost use Rattle.store.specs.Calls.{LooksUp};
+ghost use Rattle.nearest.specs.Nearest.{Suggests};
 ghost use Rattle.preview.specs.Preview.{PreviewsTo};
 
 #[no_mangle]
@@ -92,4 +93,20 @@ pub extern "C" fn gridprofile_lookup(
         (now (length .entry)) r (now (out .exit)) (now (length .exit)) ⌝ }
 {
     store::lookup(store, country, class, hertz, out, length)
+}
+
+#[no_mangle]
+pub extern "C" fn gridprofile_nearest(
+    store: &[u8],
+    country: &[u8],
+    hertz: u32,
+    volts: u32,
+    out: &mut [u8],
+    length: &mut usize,
+) -> u8
+    ensures { λ r.
+        ⌜ Suggests classes (now (store .entry)) (now (country .entry)) hertz volts (now (out .entry))
+        (now (length .entry)) r (now (out .exit)) (now (length .exit)) ⌝ }
+{
+    nearest::nearest(store, country, hertz, volts, out, length)
 }

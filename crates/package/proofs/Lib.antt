@@ -7,3 +7,4 @@ pub mod Theorems
 pub mod FromLine
 pub mod Runs
 pub mod Images
+pub mod Nearest

@@ -3,7 +3,7 @@
 -- proofs/Images.antt.
 -- Assumes nothing.
 use mathlib.Core.Path.{_≡_}
-use mathlib.Core.Bool.{true, _&&_, _||_}
+use mathlib.Core.Bool.{Bool, true, _&&_, _||_}
 use mathlib.Core.List.{List, [], _∷_, _++_}
 use Prim.Native.Nat.{ℕ}
 use lib.Dec.{eqb, ltb}
@@ -18,9 +18,10 @@ use Rattle.scheme.specs.Key.{publicKey}
 use Rattle.scheme.specs.Verify.{verify}
 use Rattle.store.specs.declared.Device.{Device}
 use Rattle.store.specs.Keys.{keyOf, deviceKey, deviceOf, deviceOk}
-use Rattle.store.specs.Stored.{capacity, storeSize, stored, find, isStored}
+use Rattle.store.specs.Stored.{capacity, storeSize, stored, find, isDone, isStored}
 use Rattle.store.specs.Calls.{lookupIn, newer, foundLine, LooksUp}
 use Rattle.store.specs.Reached.{Call, Reached, model}
+use Rattle.nearest.specs.Nearest.{measuredOf, measuredOk, nearestIn, Suggests}
 use Rattle.package.specs.Package.{signatureIn, lineIn, opened}
 use Rattle.package.specs.Entries.{MakesFromLine, Loads}
 
@@ -72,6 +73,16 @@ callsBy table (l ∷ ls) = callsOf table l ++ callsBy table ls
 abbrev pub mapBy : List Class → List Load → List Profile
 mapBy table loads = model [] (callsBy table loads)
 
+-- the checks of what is looked for in a map: what is asked for must exist, the buffer must have its size, and something
+-- must be found
+abbrev pub inMapChecks : List ℕ → Bool → Result Profile → List ℕ → List Check
+inMapChecks country exists found old =
+    bad-device unless eqb (length country) 2
+    ∷ bad-device unless exists
+    ∷ bad-size unless eqb (length old) longest
+    ∷ not-stored unless isDone found
+    ∷ []
+
 module _ (table : List Class) where
   -- an image that loads made has the size of one, and what it stores is reached by their calls, so that all that holds
   -- of reached stores holds of it
@@ -85,12 +96,9 @@ module _ (table : List Class) where
   -- The store answers as a map: a lookup answers 10 for a setting that is none, 1 for a buffer of another size, 9
   -- where the map has nothing under the device's country, class and hertz, and else writes the line of what it has.
   abbrev pub mapChecks : List Load → List ℕ → ℕ → ℕ → List ℕ → List Check
-  mapChecks loads country class hertz old =
-      bad-device unless eqb (length country) 2
-      ∷ bad-device unless deviceOk table (deviceOf country class hertz)
-      ∷ bad-size unless eqb (length old) longest
-      ∷ not-stored unless isStored (deviceKey (deviceOf country class hertz)) (mapBy table loads)
-      ∷ []
+  mapChecks loads country class hertz =
+      inMapChecks country (deviceOk table (deviceOf country class hertz))
+      (find (deviceKey (deviceOf country class hertz)) (mapBy table loads))
 
   abbrev pub AsMap : Type 0
   AsMap =
@@ -106,6 +114,19 @@ module _ (table : List Class) where
       (loads : List Load) (image country : List ℕ) (class hertz : ℕ) (old : List ℕ) (before answer : ℕ) (lent : List ℕ)
       (after : ℕ)
       → MadeBy table loads image → LooksUp table image country class hertz old before answer lent after → answer ≡ 5 → ⊥
+
+  -- Nearest answers from the map too, so that it does not matter which slot holds what: 10 for a measurement that is
+  -- none, 1 for a buffer of another size, 9 where none of the map is within reach, and else the line of the nearest of
+  -- the map. It never answers 5.
+  abbrev pub NearestAsMap : Type 0
+  NearestAsMap =
+      (loads : List Load) (image country : List ℕ) (hertz volts : ℕ) (old : List ℕ) (before answer : ℕ) (lent : List ℕ)
+      (after : ℕ)
+      → MadeBy table loads image → Suggests table image country hertz volts old before answer lent after
+      → AnswersFront
+      (inMapChecks country (measuredOk (measuredOf country hertz volts))
+      (nearestIn (measuredOf country hertz volts) (mapBy table loads)) old)
+      (foundLine (nearestIn (measuredOf country hertz volts) (mapBy table loads))) old before answer lent after
 
   -- one of the loads was answered 0 on a device of this country, class and hertz, and the verifier answers 0 for the
   -- signature of its package over exactly this line

@@ -1,6 +1,6 @@
 -- What an entry answers that writes the line of something found in an image, by the first check that fails: of every
 -- class table, whatever is asked for and whatever is found. Assumes nothing.
-use mathlib.Core.Path.{_≡_, refl, _∙_, sym, ap, subst}
+use mathlib.Core.Path.{_≡_, refl, ap, subst}
 use mathlib.Core.Bool.{Bool, true, false}
 use mathlib.Core.List.{List}
 use Prim.Native.Nat.{ℕ}

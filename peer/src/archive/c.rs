@@ -30,6 +30,17 @@ extern "C" {
         line_len: usize,
         length: *mut usize,
     ) -> u8;
+    pub fn gridprofile_nearest(
+        store: In,
+        store_len: usize,
+        country: In,
+        country_len: usize,
+        hertz: u32,
+        volts: u32,
+        line: Out,
+        line_len: usize,
+        length: *mut usize,
+    ) -> u8;
 }
 
 /// A function over an input and a lent buffer.

@@ -2,10 +2,11 @@
 
 use peer::archive::{self, Category};
 use peer::harness::{Lent, Tally};
-use peer::line::{read_line, write_line, Profile, LONGEST, NOMINAL_HERTZ};
+use peer::line::{image, read_line, write_line, Profile, IMAGE, LONGEST, NOMINAL_HERTZ};
 use peer::rng::Rng;
 use peer::scheme;
-use peer::store::{self, wrote_one_slot, Device, Store, Verify, STORE};
+use peer::store::{self, wrote_one_slot, Device, Measured, Store, Verify, STORE};
+use std::fmt::Debug;
 
 /// Few countries, so that triples come again; with four classes and both hertz they are more triples than fit.
 pub const COUNTRIES: [&[u8; 2]; 4] = [b"XA", b"XB", b"XC", b"AX"];
@@ -18,6 +19,23 @@ pub fn devices() -> impl Iterator<Item = Device<'static>> {
     let of = |country: &'static [u8; 2], class| NOMINAL_HERTZ.map(|hertz| Device { country, class, hertz });
     COUNTRIES.into_iter().flat_map(move |country| (65..69).flat_map(move |class| of(country, class)))
 }
+
+/// An image with these profiles in these slots.
+pub fn placed(slots: &[(usize, Profile)]) -> Vec<u8> {
+    let mut bytes = vec![0; STORE];
+    for (slot, profile) in slots {
+        bytes[slot * IMAGE..(slot + 1) * IMAGE].copy_from_slice(&image(profile));
+    }
+    bytes
+}
+
+/// An image with these profiles in its first slots.
+pub fn holding(profiles: &[Profile]) -> Vec<u8> {
+    placed(&profiles.iter().copied().enumerate().collect::<Vec<_>>())
+}
+
+/// An entry that reads a store and writes a line: image, line, length.
+type Reader<'a> = &'a dyn Fn(&[u8], &mut [u8], usize) -> (u8, usize);
 
 /// A key and a package.
 #[derive(Clone, Copy)]
@@ -90,14 +108,25 @@ impl Both {
         self.load(t, sent, device, &verify)
     }
 
+    /// Reads in both, with `room` bytes lent for the line. The image stays as it was.
+    fn read(&self, t: &mut Tally, proved: Reader, plain: Reader, asked: &dyn Debug, room: usize) -> u8 {
+        let old = t.inputs().wrapping_mul(0x9E37_79B9);
+        let (image, shown) = (self.proved.clone(), || format!("{asked:?} into {room}"));
+        let answer = t.both(room, |out| proved(&image, out, old), |out| plain(&self.plain, out, old), shown);
+        assert!(image == self.proved, "image after {}", shown());
+        answer
+    }
+
     /// Looks up in both, with `room` bytes lent for the line.
     pub fn lookup(&self, t: &mut Tally, device: &Device, room: usize) -> u8 {
-        let old = t.inputs().wrapping_mul(0x9E37_79B9);
-        let (image, shown) = (self.proved.clone(), || format!("{device:?} into {room}"));
-        let proved = |out: &mut [u8]| archive::lookup(&image, device, out, old);
-        let answer = t.both(room, proved, |out| store::lookup(&self.plain, device, out, old), shown);
-        assert!(image == self.proved, "image of lookup, {}", shown());
-        answer
+        let proved: Reader = &|image, out, old| archive::lookup(image, device, out, old);
+        self.read(t, proved, &|image, out, old| store::lookup(image, device, out, old), device, room)
+    }
+
+    /// Asks both for the nearest profile, with `room` bytes lent for the line.
+    pub fn nearest(&self, t: &mut Tally, measured: &Measured, room: usize) -> u8 {
+        let proved: Reader = &|image, out, old| archive::nearest(image, measured, out, old);
+        self.read(t, proved, &|image, out, old| store::nearest(image, measured, out, old), measured, room)
     }
 
     /// A lookup as a device makes it.
@@ -112,6 +141,18 @@ impl Both {
         assert_eq!(answer, 0, "{device:?}");
         out.truncate(length);
         out
+    }
+
+    /// The line that both find nearest, or the refusal.
+    pub fn near(&self, t: &mut Tally, measured: &Measured) -> Result<Vec<u8>, u8> {
+        match self.nearest(t, measured, LONGEST) {
+            0 => (),
+            refusal => return Err(refusal),
+        }
+        let mut out = vec![0; LONGEST];
+        let (_, length) = archive::nearest(&self.proved, measured, &mut out, 0);
+        out.truncate(length);
+        Ok(out)
     }
 
     /// Looks every triple up.

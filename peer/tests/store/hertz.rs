@@ -1,11 +1,11 @@
 //! Both hertz of one country and class: each has a profile of its own, and is a device of its own.
 
-use crate::both::{Both, Sent, Signer};
+use crate::both::{holding, placed, Both, Sent, Signer};
 use crate::held::Held;
 use peer::archive::{Category, CATEGORIES, CATEGORY_1};
 use peer::harness::Tally;
 use peer::line::cases::{other_hertz, valid, NO_HERTZ};
-use peer::line::{image, Profile, IMAGE, NOMINAL_HERTZ};
+use peer::line::{Profile, NOMINAL_HERTZ};
 use peer::rng::Rng;
 use peer::store::{Device, CAPACITY, STORE};
 
@@ -24,20 +24,11 @@ fn place(hertz: u32) -> usize {
     usize::from(hertz == NOMINAL_HERTZ[1])
 }
 
-/// An image with these profiles in these slots.
-fn placed(slots: &[(usize, Profile)]) -> Vec<u8> {
-    let mut bytes = vec![0; STORE];
-    for (slot, profile) in slots {
-        bytes[slot * IMAGE..(slot + 1) * IMAGE].copy_from_slice(&image(profile));
-    }
-    bytes
-}
-
 /// An image with `others` triples of other countries, and these profiles after them.
 fn beside(others: usize, profiles: &[Profile]) -> Vec<u8> {
     let other = |at: usize, profile: Profile| Profile { country: [b'Q', b'A' + at as u8], ..profile };
     let others = (0..others).map(|slot| other(slot, at(NOMINAL_HERTZ[slot % 2], 1)));
-    placed(&others.chain(profiles.iter().copied()).enumerate().collect::<Vec<_>>())
+    holding(&others.chain(profiles.iter().copied()).collect::<Vec<_>>())
 }
 
 /// Hertz, a serial, and what loading it answers.

@@ -11,7 +11,7 @@ use peer::store::{Device, Store, STORE};
 /// Any bytes: in one of eight nothing but noise, else slots that are used by any byte but 0, free
 /// ones that are not blank, profiles that break rules, hertz that no grid has, and triples that stand
 /// in several slots.
-fn any_store(rng: &mut Rng) -> Vec<u8> {
+pub fn any_store(rng: &mut Rng) -> Vec<u8> {
     let (mut bytes, free) = (rng.bytes(STORE), rng.below(8));
     for slot in bytes.chunks_exact_mut(IMAGE).filter(|_| free > 0) {
         slot.copy_from_slice(&any_image(rng));

@@ -1,15 +1,15 @@
 //! Every pair of refusals that one input can have: the earlier wins. And the worked cases.
 
-use crate::both::{Both, Sent, Signer};
+use crate::both::{holding, Both, Sent, Signer};
 use peer::archive::{Category, CATEGORIES, CATEGORY_1};
 use peer::harness::Tally;
 use peer::line::cases::{valid, NO_HERTZ};
-use peer::line::{image, read_line, Profile, Rate};
+use peer::line::{read_line, Profile, Rate};
 use peer::rng::Rng;
 use peer::scheme::challenges;
 use peer::scheme::forge::Forger;
 use peer::sizes::Sizes;
-use peer::store::{package_lengths, Device, STORE};
+use peer::store::{package_lengths, Device};
 
 const LINE: &[u8] = b"GP1,XA,B,12,230,50,1150,100,800,1500,1500,100,-2500,100\n";
 /// The same at a frequency that there is not, of another class, with a byte after the line feed, without one; with a
@@ -54,12 +54,6 @@ struct Input {
 /// The line's profile, at other countries, classes and serials.
 fn at(country: [u8; 2], class: u8, serial: u32) -> Profile {
     Profile { country, class, serial, ..read_line(LINE).expect("a line") }
-}
-
-fn holding(profiles: &[Profile]) -> Vec<u8> {
-    let mut bytes: Vec<u8> = profiles.iter().flat_map(image).collect();
-    bytes.resize(STORE, 0);
-    bytes
 }
 
 /// The line's profile with the greatest serial, at these hertz.

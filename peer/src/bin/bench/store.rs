@@ -1,14 +1,15 @@
-//! Rows of packages, loading and lookups.
+//! Rows of packages, loading, lookups and the nearest profile.
 
 use crate::measure::least;
 use crate::scheme::{row, Signed, INPUTS, LINE, SIGN, VERIFY};
 use crate::stacks::Stacks;
 use crate::table::{print, Row};
 use peer::archive::{self, Category};
-use peer::line::{image, read_line, Profile, LONGEST};
+use peer::line::{class_of, image, read_line, Profile, LONGEST};
 use peer::preview::cases::EXAMPLE;
 use peer::rng::Rng;
-use peer::store::{self, Device, CAPACITY, STORE};
+use peer::store::{self, Device, Measured, CAPACITY, STORE};
+use std::array::from_fn;
 use std::hint::black_box;
 
 /// A package of the usual line, and what it is made from.
@@ -67,17 +68,47 @@ pub fn rows(category: &'static Category, rng: &mut Rng, stacks: &Stacks) {
     row(category, "load", stacks, &VERIFY.strings(first), &mut library, &mut plain);
 }
 
-/// Each of 16 stored profiles once.
-pub fn lookup(stacks: &Stacks) {
-    let profile = read_line(&EXAMPLE.as_bytes()[..LINE]).expect("a line");
-    let stored: [Profile; CAPACITY] = std::array::from_fn(|at| Profile { country: [b'X', b'A' + at as u8], ..profile });
-    let image: Vec<u8> = stored.iter().flat_map(image).collect();
+/// A row of an entry that finds the line of each of 16 stored profiles once.
+fn finding(
+    entry: &str,
+    stacks: &Stacks,
+    library: impl Fn(usize, &mut [u8]) -> (u8, usize),
+    plain: impl Fn(usize, &mut [u8]) -> (u8, usize),
+) {
     let (mut out, mut other) = ([0; LONGEST], [0; LONGEST]);
-    let device = |at: usize| Device::of(&stored[at]);
-    let mut library = |at: usize| assert_eq!(archive::lookup(&image, &device(at), black_box(&mut out), 0), (0, LINE));
-    let mut plain = |at: usize| assert_eq!(store::lookup(&image, &device(at), black_box(&mut other), 0), (0, LINE));
+    let mut library = |at: usize| assert_eq!(library(at, black_box(&mut out)), (0, LINE));
+    let mut plain = |at: usize| assert_eq!(plain(at, black_box(&mut other)), (0, LINE));
     let times = least(CAPACITY, CAPACITY, &mut [&mut library, &mut plain]);
-    assert_eq!(out, other, "lookup");
-    let stack = stacks.of("lookup");
-    print(&Row { name: "lookup, 16 stored".to_string(), library: times[0], plain: times[1], stack, ..Row::default() });
+    assert_eq!(out, other, "{entry}");
+    let (name, stack) = (format!("{entry}, 16 stored"), stacks.of(entry));
+    print(&Row { name, library: times[0], plain: times[1], stack, ..Row::default() });
+}
+
+fn usual() -> Profile {
+    read_line(&EXAMPLE.as_bytes()[..LINE]).expect("a line")
+}
+
+/// One profile of each of 16 countries.
+pub fn lookup(stacks: &Stacks) {
+    let stored: [Profile; CAPACITY] = from_fn(|at| Profile { country: [b'X', b'A' + at as u8], ..usual() });
+    let image: Vec<u8> = stored.iter().flat_map(image).collect();
+    let library = |at: usize, line: &mut [u8]| archive::lookup(&image, &Device::of(&stored[at]), line, 0);
+    let plain = |at: usize, line: &mut [u8]| store::lookup(&image, &Device::of(&stored[at]), line, 0);
+    finding("lookup", stacks, library, plain);
+}
+
+/// Four countries, each with a profile of every class, and measured volts that are 7 above those of each.
+pub fn nearest(stacks: &Stacks) {
+    let of_class = |volts: u32| Profile { volts, class: class_of(volts).expect("100 to 1000"), ..usual() };
+    let classes = [110, 230, 400, 690].map(of_class);
+    let stored: [Profile; CAPACITY] =
+        from_fn(|at| Profile { country: [b'X', b'A' + (at / 4) as u8], ..classes[at % 4] });
+    let image: Vec<u8> = stored.iter().flat_map(image).collect();
+    let measured = |at: usize| {
+        let Profile { country, hertz, volts, .. } = &stored[at];
+        Measured { country, hertz: *hertz, volts: volts + 7 }
+    };
+    let library = |at: usize, line: &mut [u8]| archive::nearest(&image, &measured(at), line, 0);
+    let plain = |at: usize, line: &mut [u8]| store::nearest(&image, &measured(at), line, 0);
+    finding("nearest", stacks, library, plain);
 }

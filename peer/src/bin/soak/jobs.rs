@@ -16,7 +16,7 @@ struct Entry {
 /// Keys and signatures of the greater categories are dearer, and so they have fewer inputs: enough for every
 /// answer to come in the short run.
 #[rustfmt::skip]
-static ENTRIES: [Entry; 21] = [
+static ENTRIES: [Entry; 22] = [
     Entry { name: "shake128", inputs: &[1_000_000], answers: &[0], one: small::shake128 },
     Entry { name: "shake256", inputs: &[1_000_000], answers: &[0], one: small::shake256 },
     Entry { name: "pack_values", inputs: &[1_000_000], answers: &[0, 1, 3], one: small::pack_values },
@@ -58,6 +58,7 @@ static ENTRIES: [Entry; 21] = [
         name: "load", inputs: &[400_000, 120_000, 100_000], answers: &[0, 1, 3, 4, 5, 6, 7, 8, 10], one: store::load,
     },
     Entry { name: "lookup", inputs: &[1_000_000], answers: &[0, 1, 5, 9, 10], one: store::lookup },
+    Entry { name: "nearest", inputs: &[1_000_000], answers: &[0, 1, 5, 9, 10], one: store::nearest },
 ];
 
 /// A job for each entry and category.

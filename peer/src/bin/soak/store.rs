@@ -1,4 +1,4 @@
-//! Inputs for packages, loading and lookups. The fast plain program signs and verifies.
+//! Inputs for packages, loading, lookups and the nearest profile. The fast plain program signs and verifies.
 
 use crate::lent::shown;
 use crate::lines::{self, line};
@@ -6,10 +6,11 @@ use crate::turn::{damaged, number, resized, size, Turn};
 use crate::world::Package;
 use peer::archive::c;
 use peer::line::cases::{other_hertz, some_rate, valid, NO_HERTZ};
-use peer::line::{image, meaning, read_line, write_line, Profile, IMAGE, LONGEST, SHORTEST};
+use peer::line::{class_of, image, meaning, read_line, write_line, Profile, HERTZ, IMAGE, LONGEST, SHORTEST, VOLTS};
 use peer::rng::Rng;
 use peer::sizes::Sizes;
-use peer::store::{self, package_lengths, Device, Store, CAPACITY};
+use peer::store::{self, package_lengths, Device, Measured, Store, CAPACITY, MEASURED_MAX, REACH};
+use std::fmt::Debug;
 
 fn longest_package(s: &Sizes) -> usize {
     *package_lengths(s).end()
@@ -227,22 +228,94 @@ pub fn lookup(t: &mut Turn) -> u8 {
     compare_lookup(t, &image, &setting.device(), room)
 }
 
-fn compare_lookup(t: &mut Turn, image: &[u8], device: &Device, room: usize) -> u8 {
+/// Slices as C is lent them.
+type In = (*const u8, usize);
+type Out = (*mut u8, usize);
+
+/// Compares an entry that reads a store for a country and writes a line. What it is lent is alive for the call and does
+/// not overlap.
+fn compare_line(
+    t: &mut Turn,
+    (image, country, room): (&[u8], &[u8], usize),
+    asked: &dyn Debug,
+    proved: impl FnOnce([In; 2], Out, *mut usize) -> u8,
+    plain: impl FnOnce(&mut [u8], usize) -> (u8, usize),
+) -> u8 {
     let mut expected = t.rng.bytes(room);
-    let lent = t.lend_all([image, device.country]);
+    let lent = t.lend_all([image, country]);
     let (mut out, mut length) = (t.lend(&expected), t.lend_length());
-    let [(a, b), (c, d)] = lent.each_ref().map(|l| (l.pointer(), l.len()));
-    let (e, f, g) = (out.pointer_mut(), out.len(), length.pointer_mut());
-    // SAFETY: as above.
-    let answer = unsafe { c::gridprofile_lookup(a, b, c, d, device.class, device.hertz, e, f, g) };
-    let due = store::lookup(image, device, &mut expected, length.held);
-    assert_eq!(
-        (answer, length.value()),
-        due,
-        "answer and length for {device:?} into {room} bytes, store {}",
-        shown(image)
-    );
+    let read = lent.each_ref().map(|l| (l.pointer(), l.len()));
+    let answer = proved(read, (out.pointer_mut(), out.len()), length.pointer_mut());
+    let due = plain(&mut expected, length.held);
+    let found = (answer, length.value());
+    assert_eq!(found, due, "answer and length for {asked:?} into {room} bytes, store {}", shown(image));
     lent.iter().for_each(|l| l.demand_unchanged());
     out.demand(&expected);
     answer
+}
+
+fn compare_lookup(t: &mut Turn, image: &[u8], device: &Device, room: usize) -> u8 {
+    let proved = |[(a, b), (c, d)]: [In; 2], (e, f): Out, length: *mut usize| {
+        // SAFETY: it is lent what `compare_line` says.
+        unsafe { c::gridprofile_lookup(a, b, c, d, device.class, device.hertz, e, f, length) }
+    };
+    let plain = |line: &mut [u8], length| store::lookup(image, device, line, length);
+    compare_line(t, (image, device.country, room), device, proved, plain)
+}
+
+/// Volts about these, often at the end of one reach or of two, and now and then any.
+fn volts_about(rng: &mut Rng, volts: u32) -> u32 {
+    let away = match rng.below(16) {
+        0 => number(rng),
+        1..=7 => [0, 1, REACH - 1, REACH, REACH + 1, 2 * REACH, 2 * REACH + 1][rng.below(7)],
+        _ => rng.below(2 * REACH as usize) as u32,
+    };
+    [volts.wrapping_sub(away), volts.wrapping_add(away)][rng.below(2)]
+}
+
+/// Brings slots to the country and hertz of `profile` and to volts about its own, used ones and free ones. The class
+/// mostly follows.
+fn crowd(rng: &mut Rng, image: &mut [u8], profile: &Profile) {
+    let few = 1 + rng.below(6);
+    for slot in image.chunks_exact_mut(IMAGE) {
+        if rng.below(few) == 0 {
+            let volts = volts_about(rng, profile.volts);
+            slot[1..3].copy_from_slice(&profile.country);
+            slot[VOLTS..VOLTS + 4].copy_from_slice(&volts.to_le_bytes());
+            slot[HERTZ..HERTZ + 4].copy_from_slice(&profile.hertz.to_le_bytes());
+            slot[3] = class_of(volts).filter(|_| rng.below(16) > 0).unwrap_or(slot[3]);
+        }
+    }
+}
+
+/// A store with many profiles of one country and hertz, asked about the volts of one of them, about others, or for
+/// what there is not.
+pub fn nearest(t: &mut Turn) -> u8 {
+    let mut profile = t.pick(&t.world.packages).profile;
+    let mut image = store_image(&mut t.rng, &profile);
+    crowd(&mut t.rng, &mut image, &profile);
+    if t.one_in(4) {
+        let at = t.rng.below(CAPACITY) * IMAGE;
+        profile = meaning(image[at..at + IMAGE].try_into().expect("a slot"));
+    }
+    let mut setting = Setting::of(&profile);
+    if t.one_in(8) {
+        setting.lose(&mut t.rng);
+    }
+    let volts = match t.rng.below(32) {
+        0 => number(&mut t.rng),
+        1 => *t.pick(&[MEASURED_MAX, MEASURED_MAX + 1, profile.volts.wrapping_add(65_536)]),
+        _ => volts_about(&mut t.rng, profile.volts),
+    };
+    let (image, room) = (resized(&mut t.rng, &image, 15), size(&mut t.rng, LONGEST, 15));
+    compare_nearest(t, &image, &Measured { country: &setting.country, hertz: setting.hertz, volts }, room)
+}
+
+fn compare_nearest(t: &mut Turn, image: &[u8], measured: &Measured, room: usize) -> u8 {
+    let proved = |[(a, b), (c, d)]: [In; 2], (e, f): Out, length: *mut usize| {
+        // SAFETY: it is lent what `compare_line` says.
+        unsafe { c::gridprofile_nearest(a, b, c, d, measured.hertz, measured.volts, e, f, length) }
+    };
+    let plain = |line: &mut [u8], length| store::nearest(image, measured, line, length);
+    compare_line(t, (image, measured.country, room), measured, proved, plain)
 }

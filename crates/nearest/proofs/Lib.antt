@@ -1,0 +1,4 @@
+pub mod NearLaws
+pub mod BestLaws
+pub mod Theorems
+pub mod Reached
