@@ -174,14 +174,26 @@ pub fn wrote_one_slot(old: &[u8], new: &[u8], profile: &Profile) -> bool {
     chosen && old.len() == new.len() && after[i] == wanted
 }
 
-/// Writes the line stored for a device: 10, 1, 9; 5 where an image holds what no load stored.
-pub fn lookup(image: &[u8], device: &Device, line: &mut [u8], length: usize) -> (u8, usize) {
+/// Writes the line of what is found in an image, if that exists which is asked for: 10, 1, 9; 5 where the image holds
+/// what no load stored.
+fn write_found(
+    image: &[u8],
+    exists: Result<(), Refusal>,
+    find: impl FnOnce(&Store) -> Result<Profile, Refusal>,
+    line: &mut [u8],
+    length: usize,
+) -> (u8, usize) {
     let make = || {
-        device.exists()?;
+        exists?;
         demand(image.len() == STORE && line.len() == LONGEST, BAD_SIZE)?;
-        write_line(&Store::from_image(image).lookup(device)?)
+        write_line(&find(&Store::from_image(image))?)
     };
     answer_length(make(), line, length)
+}
+
+/// Writes the line stored for a device.
+pub fn lookup(image: &[u8], device: &Device, line: &mut [u8], length: usize) -> (u8, usize) {
+    write_found(image, device.exists(), |store| store.lookup(device), line, length)
 }
 
 #[cfg(test)]

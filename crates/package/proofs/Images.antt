@@ -9,16 +9,7 @@ use lib.Dec.{T, eqb}
 use lib.ListN.{length, take, drop, replicate, length-replicate, take-append-drop}
 use lib.Seq.{take-at}
 use borrow.Author.Tests.{eqb-true, eq-eqb}
-use Rattle.outcome.specs.Answer.{
-  bad-size,
-  bad-profile,
-  not-stored,
-  bad-device,
-  _unless_,
-  firstRefusal,
-  pick,
-  AnswersFront,
-}
+use Rattle.outcome.specs.Answer.{bad-size, not-stored, bad-device, _unless_, firstRefusal, AnswersFront}
 use Rattle.outcome.specs.Result.{Result, done, refused}
 use Rattle.outcome.proofs.Checks.{passed}
 use Rattle.parameters.specs.declared.Params.{Params}
@@ -33,7 +24,7 @@ use Rattle.store.specs.declared.Key.{Key}
 use Rattle.store.specs.declared.Device.{Device}
 use Rattle.store.specs.Keys.{deviceKey, deviceOf, deviceOk}
 use Rattle.store.specs.Stored.{storeSize, stored, find, isDone, isStored}
-use Rattle.store.specs.Calls.{foundIn, foundLine, validIn, lookupLineChecks, LooksUp}
+use Rattle.store.specs.Calls.{foundIn, foundLine, lookupLineChecks, LooksUp}
 use Rattle.store.specs.Reached.{Holds}
 use Rattle.store.proofs.KeyLaws.{device-of-valid}
 use Rattle.store.proofs.LookupLaws.{lookup-sound, lookup-find, lookup-stored}
@@ -46,6 +37,7 @@ use Rattle.package.specs.Images.{
   MadeBy,
   callsBy,
   mapBy,
+  inMapChecks,
   mapChecks,
   AsMap,
   NoneBroken,
@@ -59,6 +51,7 @@ use Rattle.package.proofs.Stages.{front-as}
 use Rattle.package.proofs.Theorems.{accepted, made-loads}
 use Rattle.package.proofs.FromLine.{made}
 use Rattle.package.proofs.Runs.{image-reached, Stored, run-found}
+use Rattle.package.proofs.InMap.{as-found}
 
 -- ---- a lookup that finds a valid profile
 
@@ -132,38 +125,23 @@ module _ (table : List Class) (loads : List Load) (image : List ℕ) (run : Made
     found-map fine = lookup-sound table device (stored image) fine ∙ held .as-map (deviceKey device)
 
     -- what is found is valid
-    no-broken : (r : Result Profile) → inMap ≡ r
-        → _≡_ {A = ℕ} (pick (isDone r) (pick (validIn table r) 0 5) 9) (pick (isDone r) 0 9)
-    no-broken (done q) e =
-        let stands = held .as-map (deviceKey device) ∙ e in
-        let ok = find-valid table (deviceKey device) (stored image) q (held .all-valid) stands in
-        ap (λ (b : Bool). pick b 0 5) (holds (valid table q) ok)
-    no-broken (refused r) e = refl
+    valid-here : (p : Profile) → foundIn table image country class hertz ≡ done p → T (valid table p)
+    valid-here p e =
+        find-valid table (deviceKey device) (stored image) p (held .all-valid)
+        (lookup-find table device (stored image) p e)
 
     same-number : firstRefusal (lookupLineChecks table image country class hertz old)
         ≡ firstRefusal (mapChecks table loads country class hertz old)
-    same-number = go (eqb (length country) 2) (deviceOk table device) refl
+    same-number =
+        as-found table image country old (deviceOk table device) (foundIn table image country class hertz) whole
+        valid-here
+        ∙ go (deviceOk table device) refl
       where
-        go : (two fine : Bool) → deviceOk table device ≡ fine
-            → firstRefusal
-            (bad-device unless two
-            ∷ bad-device unless fine
-            ∷ bad-size unless eqb (length image) storeSize
-            ∷ bad-size unless eqb (length old) longest
-            ∷ not-stored unless isDone (foundIn table image country class hertz)
-            ∷ bad-profile unless validIn table (foundIn table image country class hertz)
-            ∷ [])
-            ≡ firstRefusal
-            (bad-device unless two
-            ∷ bad-device unless fine
-            ∷ bad-size unless eqb (length old) longest
-            ∷ not-stored unless isStored (deviceKey device) (mapBy table loads)
-            ∷ [])
-        go false fine e = refl
-        go true false e = refl
-        go true true e =
-            rw (eq-eqb (length image) storeSize whole, found-map e)
-            (ap (λ (n : ℕ). pick (eqb (length old) longest) n 1) (no-broken inMap refl))
+        go : (fine : Bool) → deviceOk table device ≡ fine
+            → firstRefusal (inMapChecks country fine (foundIn table image country class hertz) old)
+            ≡ firstRefusal (inMapChecks country fine inMap old)
+        go false e = refl
+        go true e = ap (λ (r : Result Profile). firstRefusal (inMapChecks country true r old)) (found-map e)
 
     module _ (before answer : ℕ) (lent : List ℕ) (after : ℕ)
         (looks : LooksUp table image country class hertz old before answer lent after) where

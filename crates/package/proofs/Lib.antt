@@ -6,5 +6,6 @@ pub mod TheoremLaws
 pub mod Theorems
 pub mod FromLine
 pub mod Runs
+pub mod InMap
 pub mod Images
 pub mod Nearest

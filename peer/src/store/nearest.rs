@@ -1,8 +1,8 @@
 //! The stored profile that is nearest to measured volts.
 
-use super::{Store, STORE};
-use crate::line::{is_country, write_line, Profile, LONGEST, NOMINAL_HERTZ};
-use crate::refusal::{answer_length, demand, Refusal, BAD_DEVICE, BAD_SIZE, NOT_STORED};
+use super::{write_found, Store};
+use crate::line::{is_country, Profile, NOMINAL_HERTZ};
+use crate::refusal::{demand, Refusal, BAD_DEVICE, NOT_STORED};
 
 /// The most volts that may be measured.
 pub const MEASURED_MAX: u32 = 2_000;
@@ -48,14 +48,9 @@ impl Store {
     }
 }
 
-/// Writes the line of the nearest profile: 10, 1, 9; 5 where an image holds what no load stored.
+/// Writes the line of the nearest profile.
 pub fn nearest(image: &[u8], measured: &Measured, line: &mut [u8], length: usize) -> (u8, usize) {
-    let make = || {
-        measured.exists()?;
-        demand(image.len() == STORE && line.len() == LONGEST, BAD_SIZE)?;
-        write_line(&Store::from_image(image).nearest(measured)?)
-    };
-    answer_length(make(), line, length)
+    write_found(image, measured.exists(), |store| store.nearest(measured), line, length)
 }
 
 #[cfg(test)]

@@ -1,7 +1,7 @@
 //! The worked table, ties, the ends of the reach, and images that no load made.
 
 use super::*;
-use crate::line::read_line;
+use crate::line::{read_line, write_line, LONGEST};
 
 /// The lines of the worked store.
 const LINES: [&[u8]; 3] = [
