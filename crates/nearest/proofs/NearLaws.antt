@@ -3,11 +3,9 @@ use mathlib.Core.Path.{_≡_, refl, _∙_, sym, ap}
 use mathlib.Core.Bool.{Bool, true, false, _&&_, or-false}
 use mathlib.Core.List.{List, [], _∷_}
 use Prim.Native.Nat.{ℕ, _+_, _≤_, _<_}
-use native.Mathlib.Numerals.{add-one}
 use native.Mathlib.Omega.{arith}
 use lib.Dec.{leb, ltb}
-use lib.ListN.{length, getD, drop, drop-of-length-le}
-use lib.Seq.{drop-cons}
+use lib.ListN.{drop}
 use borrow.Author.Tests.{lt-ltb, le-ltb, le-leb, eq-eqb, ne-eqb}
 use Rattle.outcome.specs.Answer.{not-stored, pick}
 use Rattle.outcome.specs.Result.{Result, done, refused}
@@ -16,8 +14,7 @@ use Rattle.profile.specs.Rules.{contains, inOneOf, letters, nominalHertz}
 use Rattle.image.specs.Image.{wordAt, profileOf}
 use Rattle.store.specs.Stored.{capacity, Slot, slotOf, slotsOf, slotBytes, profilesIn, stored}
 use Rattle.store.proofs.KeyLaws.{and-fails, and-holds}
-use Rattle.store.proofs.SlotLaws.{unset}
-use Rattle.store.proofs.PlaceLaws.{slots-length, slot-at}
+use Rattle.store.proofs.PlaceLaws.{slots-next, slots-past}
 use Rattle.nearest.specs.declared.Measured.{Measured}
 use Rattle.nearest.specs.Nearest.{measurable, measuredOk, farFrom, isOf, reach, isNear, near, winsTie, isBetter, bestOf, best, nearestIn}
 use Rattle.nearest.specs.InnerSearch.{nearSlot, inSlot, better, seen}
@@ -139,15 +136,9 @@ module _ (m : Measured) (image : List ℕ) where
       → inSlot next image ≡ seen m (inSlot held image) (slotOf (slotBytes i image)) → Seen m image next (i + 1)
   seen-next held next i h before new =
       let ss : List Slot = slotsOf capacity image in
-      let size = slots-length capacity image in
-      let cut : drop i ss ≡ getD ss i unset ∷ drop (i + 1) ss =
-      drop-cons ss i unset (omega arith) ∙ ap (λ (k : ℕ). getD ss i unset ∷ drop k ss) (sym (add-one i)) in
-      let slot : getD ss i unset ≡ slotOf (slotBytes i image) = slot-at capacity i image h in
-      let all : drop i ss ≡ slotOf (slotBytes i image) ∷ drop (i + 1) ss =
-      cut ∙ ap (λ (s : Slot). s ∷ drop (i + 1) ss) slot in
       ap (λ (r : Result Profile). bestFrom m r (near m (profilesIn (drop (i + 1) ss)))) new
       ∙ sym (from-slot m (inSlot held image) (slotOf (slotBytes i image)) (drop (i + 1) ss))
-      ∙ ap (λ (l : List Slot). bestFrom m (inSlot held image) (near m (profilesIn l))) (sym all)
+      ∙ ap (λ (l : List Slot). bestFrom m (inSlot held image) (near m (profilesIn l))) (sym (slots-next image i h))
       ∙ before
 
   held-alone : (held : ℕ) → bestFrom m (inSlot held image) [] ≡ inSlot held image
@@ -163,9 +154,7 @@ module _ (m : Measured) (image : List ℕ) where
   pub seen-all : (held i : ℕ) → capacity ≤ i → Seen m image held i → inSlot held image ≡ nearestIn m (stored image)
   unfolding profilesIn near
   seen-all held i h all =
-      let size = slots-length capacity image in
-      let past : length (slotsOf capacity image) ≤ i = omega arith in
-      let none : drop i (slotsOf capacity image) ≡ [] = drop-of-length-le (slotsOf capacity image) past in
       sym (held-alone held)
-      ∙ ap (λ (l : List Slot). bestFrom m (inSlot held image) (near m (profilesIn l))) (sym none)
+      ∙ ap (λ (l : List Slot). bestFrom m (inSlot held image) (near m (profilesIn l)))
+      (sym (slots-past image i h))
       ∙ all

@@ -1,12 +1,13 @@
 -- Where the slots of an image stand: reading one, searching them, and writing one. Assumes nothing.
 use mathlib.Core.Path.{_≡_, refl, _∙_, sym, ap}
 use mathlib.Core.Bool.{Bool, true, false}
-use mathlib.Core.List.{List, _∷_, _++_, append-assoc}
+use mathlib.Core.List.{List, [], _∷_, _++_, append-assoc}
 use Prim.Native.Nat.{ℕ, zero, suc, _+_, _*_, _-_, _≤_, _<_}
+use native.Mathlib.Numerals.{add-one}
 use native.Mathlib.Omega.{arith}
 use borrow.Rule.Slice.PartMut.{putMid}
-use lib.ListN.{length, getD, take, drop, set, length-drop}
-use lib.Seq.{length-take-le, take-at, drop-at, drop-drop, take-add}
+use lib.ListN.{length, getD, take, drop, set, length-drop, drop-of-length-le}
+use lib.Seq.{length-take-le, drop-cons, take-at, drop-at, drop-drop, take-add}
 use Rattle.outcome.specs.Answer.{not-stored}
 use Rattle.outcome.specs.Result.{done, refused}
 use Rattle.profile.specs.declared.Profile.{Profile}
@@ -48,6 +49,23 @@ slot-at (suc n) (suc i) image h =
     slot-at n i (drop profileSize image) (omega arith)
     ∙ ap (λ (l : List ℕ). slotOf (take profileSize l))
     (drop-drop (profileSize * i) profileSize image ∙ ap (λ (k : ℕ). drop k image) place)
+
+-- the slots from i on are slot i and those behind it, and past the last there are none
+module _ (image : List ℕ) (i : ℕ) where
+  pub slots-next : i < capacity
+      → drop i (slotsOf capacity image) ≡ slotOf (slotBytes i image) ∷ drop (i + 1) (slotsOf capacity image)
+  slots-next h =
+      let ss : List Slot = slotsOf capacity image in
+      let size = slots-length capacity image in
+      drop-cons ss i unset (omega arith)
+      ∙ ap (λ (k : ℕ). getD ss i unset ∷ drop k ss) (sym (add-one i))
+      ∙ ap (λ (s : Slot). s ∷ drop (i + 1) ss) (slot-at capacity i image h)
+
+  pub slots-past : capacity ≤ i → drop i (slotsOf capacity image) ≡ []
+  slots-past h =
+      let size = slots-length capacity image in
+      let past : length (slotsOf capacity image) ≤ i = omega arith in
+      drop-of-length-le (slotsOf capacity image) past
 
 -- the part of an image from a slot's place to its end is the slot
 pub part-slot : (i : ℕ) (image : List ℕ)

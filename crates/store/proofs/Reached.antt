@@ -124,7 +124,7 @@ step-fits {c} {ps} {qs} step h =
 
 -- ---- everything stored is valid
 
-perm-valid : (table : List Class) {ps qs : List Profile} → Perm ps qs → AllValid table ps → AllValid table qs
+pub perm-valid : (table : List Class) {ps qs : List Profile} → Perm ps qs → AllValid table ps → AllValid table qs
 perm-valid table List·Permᴰ·nil all = tt
 perm-valid table (List·Permᴰ·cons e d) all =
     (subst (λ (p : Profile). T (valid table p)) e (all .0), perm-valid table d (all .1))

@@ -153,7 +153,7 @@ or-false false b e = (refl, e)
 or-both : (a b : Bool) → a ≡ false → b ≡ false → (a || b) ≡ false
 or-both a b e f = rw (e, f)
 
-apart-cons : (k : Key) (p : Profile) (ps : List Profile) → isStored k (p ∷ ps) ≡ false
+pub apart-cons : (k : Key) (p : Profile) (ps : List Profile) → isStored k (p ∷ ps) ≡ false
     → (sameKey (keyOf p) k ≡ false) × (isStored k ps ≡ false)
 apart-cons k p ps e = or-false (sameKey (keyOf p) k) (isStored k ps) (sym (stored-cons k p ps) ∙ e)
 
