@@ -260,10 +260,11 @@ uint8_t gridprofile_write_line(const uint8_t *profile, size_t profile_len, uint8
 /* Lists what a device would hold after the lines of an input: the input is cut after each line feed,
  * each line is stored as if it were signed and the device set to that line's own country, class and
  * hertz, refused lines and an unfinished last one are skipped. The listing, a header and then
- * country, class, hertz and serial of every stored profile once in some order, stands at the front of
- * GRIDPROFILE_LISTING_BYTES lent bytes, and its length in *length; bytes past it are not touched. An
- * input of more than GRIDPROFILE_PREVIEW_MAX_BYTES gives only the text "too long" and a line feed.
- * Refuses with 1 where out_len is another; *length is then as it was.
+ * country, class, hertz and serial of every stored profile once, stands at the front of
+ * GRIDPROFILE_LISTING_BYTES lent bytes, and its length in *length; bytes past it are not touched.
+ * Its rows ascend by country (first letter, then second), then by class, then by hertz, whatever
+ * the order of the lines. An input of more than GRIDPROFILE_PREVIEW_MAX_BYTES gives only the text
+ * "too long" and a line feed. Refuses with 1 where out_len is another; *length is then as it was.
  * Stack: 1856 bytes. */
 uint8_t gridprofile_preview(const uint8_t *input, size_t input_len, uint8_t *out, size_t out_len,
                             size_t *length);

@@ -110,6 +110,17 @@ def device_of(line):
     return country, letter, hertz
 
 
+def rows_of(serials):
+    """The rows of a preview's listing: country decides where one stands, then class, then hertz, and no serial does."""
+    return [f"{country},{letter},{hertz},{serials[country, letter, hertz]}"
+            for country, letter, hertz in sorted(serials)]
+
+
+def listing_of(rows):
+    """Every byte that a preview prints for these rows."""
+    return "".join(row + "\n" for row in ("COUNTRY,CLASS,HERTZ,SERIAL", *rows)).encode()
+
+
 def shake(data, length):
     return hashlib.shake_128(data).digest(length)
 

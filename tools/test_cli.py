@@ -3,6 +3,7 @@ planted, by test_cli_safe: nobody knows seeds whose draws are short. Prints a li
 
 import itertools
 import os
+import random
 import re
 import shlex
 import shutil
@@ -17,7 +18,7 @@ from cli_case import (ARCHIVE, BAD_LINE, CATEGORIES, DAMAGED_STORE, DEVICE, DEVI
                       FILE_TROUBLE, FIRST, GIVEN, IMAGE, KINDS, LEAST_LINE, LINE, LINE_60, LINE_C, LONGEST,
                       LONGEST_RATE, MASTER, MEASURED, MOST_LINE, NO_RANDOM_BYTES, PREVIEW, PRIVATE, PROFILE, PROGRAM,
                       RATE_LINE, ROOT, SALT, SELF_CHECK_FAILED, SHORTEST, SHORTEST_RATE, SIGNATURE, STORE, THIRD,
-                      WRONG_USAGE, Case, device_of, fingerprint, line_of, sealed, shake)
+                      WRONG_USAGE, Case, device_of, fingerprint, line_of, listing_of, rows_of, sealed, shake)
 import test_cli_categories  # noqa: E402
 import test_cli_files  # noqa: E402
 import test_cli_lines  # noqa: E402
@@ -266,9 +267,7 @@ class Load(Case):
         self.assertEqual(said, "Accepted: country XA, class B, 60 Hz, serial 1\nNothing was stored for this country, "
                          "class and hertz before.\n" + fingerprint(self.get("key")))
         shown = self.done("show", "store").decode()
-        self.assertTrue(shown.startswith("A store with 2 of 16 profiles.\n"), shown)
-        for words in (WORDS, WORDS_60):
-            self.assertIn(words, shown)
+        self.assertEqual(shown, "A store with 2 of 16 profiles.\n" + WORDS + WORDS_60)
         for line in (LINE, LINE_60):
             self.assertEqual(self.done("lookup", "store", *device_of(line)), line)
 
@@ -333,7 +332,7 @@ class Load(Case):
         shown = self.done("show", "store").decode()
         self.assertTrue(shown.startswith("A store with 16 of 16 profiles.\n"), shown)
         found = re.findall("^country (..), class (.), (..) Hz, serial 12$", shown, re.M)
-        self.assertEqual(sorted((country, letter, int(hertz)) for country, letter, hertz in found), sorted(triples))
+        self.assertEqual([(country, letter, int(hertz)) for country, letter, hertz in found], sorted(triples))
 
     def test_seventeenth_triple_is_8(self):
         """Also where it is the other hertz of a country and class that is stored; newer profiles of those stored are
@@ -425,6 +424,15 @@ def image_of(country="XA", hertz=50, serial=12, volts=230, letter="B"):
     trips = (0, 1150, 100), (0, 800, 1500), (1, 1500, 100), (2, 2500, 100), (0, 0, 0)
     numbers = serial, volts, hertz, *itertools.chain(*trips)
     return struct.pack("<B2sc18I", 1, country.encode(), letter.encode(), *numbers)
+
+
+def store_of(*lines):
+    """A store with these lines, which `line_of` has, in this order, as loads could have left it."""
+    images = []
+    for line in lines:
+        _, country, letter, serial, volts, hertz = line.decode().split(",")[:6]
+        images.append(image_of(country, int(hertz), int(serial), int(volts), letter))
+    return sealed(b"".join(images).ljust(IMAGE, b"\0"))
 
 
 class Damage(Case):
@@ -738,12 +746,7 @@ def nearest_of(lines, country, hertz, volts):
 
 class Nearest(Case):
     def stored(self, *lines):
-        """A store with these lines, in this order, as loads could have left it."""
-        images = []
-        for line in lines:
-            _, country, letter, serial, volts, hertz = line.decode().split(",")[:6]
-            images.append(image_of(country, int(hertz), int(serial), int(volts), letter))
-        self.put("store", sealed(b"".join(images).ljust(IMAGE, b"\0")))
+        self.put("store", store_of(*lines))
 
     def found(self, line, *measured):
         """It finds this line, says so, and changes no file."""
@@ -971,6 +974,26 @@ class Show(Case):
         self.assertIn("  under-voltage   85.0 % of nominal (340.000 V), after 1500 ms\n", shown)
         self.assertEqual(self.done("show", self.store(name="empty")), b"A store with 0 of 16 profiles.\n")
 
+    def test_store_in_order(self):
+        """By country, class and hertz, whichever slots hold the profiles and whatever their serials."""
+        triples = ("AZ", "D", 60), ("BA", "A", 50), ("BA", "A", 60), ("BA", "C", 50), ("BC", "B", 60)
+        lines = [line_of(*triple, serial=9 - at) for at, triple in enumerate(triples)]
+        words = [self.done("show", self.put("line", line)).decode().partition("\n")[2] for line in lines]
+        for order in itertools.permutations(lines):
+            shown = self.done("show", self.put("store", store_of(*order))).decode()
+            self.assertEqual(shown, "A store with 5 of 16 profiles.\n" + "".join(words))
+
+    def test_damaged_slots_in_order(self):
+        """A profile that breaks a rule is named by its slot, where it would be listed; of equals the first slot comes
+        first."""
+        slots = [image_of("XB"), bytes(PROFILE), image_of(hertz=55), image_of(hertz=60), image_of(serial=9), image_of()]
+        ran = self.run_in("show", self.put("store", sealed(b"".join(slots).ljust(IMAGE, b"\0"))))
+        told = re.findall(r"^(?:country|slot) .*$", ran.stdout.decode(), re.M)
+        wanted = ["country XA, class B, 50 Hz, serial 9", "country XA, class B, 50 Hz, serial 12",
+                  "slot 3: damaged, breaks a rule", "country XA, class B, 60 Hz, serial 12",
+                  "country XB, class B, 50 Hz, serial 12"]
+        self.assertEqual((ran.returncode, told), (DAMAGED_STORE, wanted))
+
     def test_every_digit_is_shown(self):
         line = b"GP1,QZ,D,4294967295,1000,60,1499,60000,7,20,1,59999,-4999,33\n"
         shown = self.done("show", self.put("line", line)).decode()
@@ -1018,17 +1041,29 @@ class Show(Case):
 
 
 def listing(text):
-    """What the requirements make of lines that are all good: the last of each growing serial."""
-    rows = {}
-    for line in text.splitlines():
-        fields = line.split(b",")
-        triple, serial = (fields[1], fields[2], fields[5]), int(fields[3])
-        if serial > rows.get(triple, 0) and (triple in rows or len(rows) < 16):
-            rows[triple] = serial
-    return sorted(b"%s,%s,%s,%d" % (*triple, serial) for triple, serial in rows.items())
+    """The rows that the requirements make of lines that are all good: the last of each growing serial."""
+    serials = {}
+    for line in text.decode().splitlines():
+        _, country, letter, serial, _, hertz = line.split(",")[:6]
+        triple = country, letter, int(hertz)
+        if int(serial) > serials.get(triple, 0) and (triple in serials or len(serials) < 16):
+            serials[triple] = int(serial)
+    return rows_of(serials)
+
+
+def lines_for(rows):
+    """A line for each of these rows."""
+    fields = (row.split(",") for row in rows)
+    return b"".join(line_of(country, letter, int(hertz), int(serial)) for country, letter, hertz, serial in fields)
 
 
 class Preview(Case):
+    # As they stand in a listing. Between neighbours decide the first letter, hertz, class, and twice the second letter;
+    # whatever counts less than one of these, the serial too, is the other way round where that one decides.
+    ROWS = ["AZ,D,60,30", "BA,A,50,7", "BA,A,60,4", "BA,C,50,2", "BC,B,60,1", "BD,B,50,99"]
+    MANY = b"".join(line_of("X" + chr(65 + n * 7 % 6), "ABCD"[n * 5 % 4], (50, 60)[n // 12 % 2], 1 + n * 37 % 101)
+                    for n in range(900))
+
     def listed(self, *words, **options):
         """What it prints, whatever it says of skipped lines; test_cli_lines looks at that."""
         ran = self.run_in(*words, **options)
@@ -1042,28 +1077,75 @@ class Preview(Case):
         if os.path.exists(PREVIEW):
             shown.append(subprocess.run([PREVIEW], input=text, stdout=subprocess.PIPE, check=True).stdout)
         for one in shown:
-            self.assertTrue(one.startswith(b"COUNTRY,CLASS,HERTZ,SERIAL\n") and one.endswith(b"\n"), one)
-            self.assertEqual(sorted(one.splitlines()[1:]), rows)
+            self.assertEqual(one, listing_of(rows))
         return shown
 
     def test_example(self):
-        self.agree(LINE + LINE_C, [b"XA,B,50,12", b"XA,C,50,5"])
-        self.agree(LINE + LINE_C + RATE_LINE + LINE_60, [b"XA,B,50,13", b"XA,B,60,1", b"XA,C,50,5"])
+        self.agree(LINE + LINE_C, ["XA,B,50,12", "XA,C,50,5"])
+        self.agree(LINE + LINE_C + RATE_LINE + LINE_60, ["XA,B,50,13", "XA,B,60,1", "XA,C,50,5"])
+
+    def test_every_order_of_the_worked_lines(self):
+        for lines in itertools.permutations((line_of("XB", hertz=60, serial=9), LINE_C, LINE_60, LINE)):
+            self.agree(b"".join(lines), ["XA,B,50,12", "XA,B,60,1", "XA,C,50,5", "XB,B,60,9"])
+
+    def test_lines_in_descending_order(self):
+        text = lines_for(self.ROWS[::-1])
+        self.assertEqual(listing(text), self.ROWS)
+        self.agree(text, self.ROWS)
+
+    def test_each_two_rows(self):
+        """Their lines stand the other way round."""
+        for pair in itertools.combinations(self.ROWS, 2):
+            self.agree(lines_for(pair[::-1]), pair)
 
     def test_both_hertz_of_a_country_and_class(self):
         """Each by its own serials, in either order."""
         for text in (LINE + LINE_60, LINE_60 + LINE):
-            self.agree(text, [b"XA,B,50,12", b"XA,B,60,1"])
-            self.agree(text + line_of(serial=11) + line_of(hertz=60, serial=2), [b"XA,B,50,12", b"XA,B,60,2"])
-            self.agree(text + line_of(serial=13) + line_of(hertz=60, serial=1), [b"XA,B,50,13", b"XA,B,60,1"])
+            self.agree(text, ["XA,B,50,12", "XA,B,60,1"])
+            self.agree(text + line_of(serial=11) + line_of(hertz=60, serial=2), ["XA,B,50,12", "XA,B,60,2"])
+            self.agree(text + line_of(serial=13) + line_of(hertz=60, serial=1), ["XA,B,50,13", "XA,B,60,1"])
+
+    def test_both_hertz_of_several_classes(self):
+        """Each class has its 50 before its 60, also where all lines of 60 come first."""
+        two = ["XA,A,50,1", "XA,A,60,2", "XA,D,50,2", "XA,D,60,1"]
+        for order in itertools.permutations(two):
+            self.agree(lines_for(order), two)
+        four = [f"XA,{letter},{hertz},{100 - hertz}" for letter in "ABCD" for hertz in (50, 60)]
+        for order in (four[::-1], four[1::2] + four[::2], four[::-2] + four[-2::-2]):
+            self.agree(lines_for(order), four)
+
+    def test_sixteen_rows(self):
+        """Given in descending order, in ascending, and as chance has it: of few countries, and of as many."""
+        draw = random.Random(106)
+        for triples in (itertools.product(("AZ", "ZA"), "ABCD", (50, 60)),
+                        itertools.product(("AB", "BA", "BB", "CA"), "AD", (50, 60)),
+                        zip(map("".join, itertools.product("ABYZ", repeat=2)), "DCBA" * 4, (60, 60, 50, 50) * 4)):
+            rows = [f"{country},{letter},{hertz},{draw.randint(1, 4294967295)}" for country, letter, hertz in triples]
+            self.assertEqual(len(rows), 16)
+            for order in (rows[::-1], rows, *(draw.sample(rows, 16) for _ in range(6))):
+                self.assertEqual(listing(lines_for(order)), rows)
+                self.agree(lines_for(order), rows)
+
+    def test_newer_serial_does_not_move_its_row(self):
+        """Whether it comes last or right behind the older one."""
+        for at, row in enumerate(self.ROWS):
+            newer = row.rpartition(",")[0] + ",4294967295"
+            rows = [*self.ROWS[:at], newer, *self.ROWS[at + 1:]]
+            for order in ([*self.ROWS, newer], [*self.ROWS[::-1], newer], [*self.ROWS[:at], row, *rows[at:]]):
+                self.agree(lines_for(order), rows)
+
+    def test_two_runs_give_the_same_paper(self):
+        """Of the same lines, and of those alone that were stored, in another order."""
+        self.put("lines", self.MANY), self.put("stored", lines_for(reversed(listing(self.MANY))))
+        papers = [self.listed("preview", name) for name in ("lines", "lines", "stored")]
+        self.assertEqual(papers, papers[:1] * 3)
 
     def test_seventeen_triples(self):
         """The last is skipped, also where it is the other hertz of a country and class that is listed."""
         both = list(itertools.product(("XA", "XB", "XC"), "ABCD", (50, 60)))
         for triples in (both[:17], [*both[:16], both[-1]], [*both[::2][:12], *both[1::2][:5]]):
             lines = [line_of(*triple) for triple in triples]
-            rows = sorted(b"%s,%s,%d,12" % (country.encode(), letter.encode(), hertz)
-                          for country, letter, hertz in triples[:16])
+            rows = [f"{country},{letter},{hertz},12" for country, letter, hertz in sorted(triples[:16])]
             text = b"".join(lines)
             self.assertEqual((len(lines), listing(text)), (17, rows))
             self.agree(text, rows)
@@ -1082,18 +1164,15 @@ class Preview(Case):
             self.agree(text, [])
 
     def test_bad_and_unfinished_lines_are_skipped(self):
-        self.agree(BAD_LINE + LINE + b"\n" + LINE_C[:-1], [b"XA,B,50,12"])
+        self.agree(BAD_LINE + LINE + b"\n" + LINE_C[:-1], ["XA,B,50,12"])
 
     def test_many_lines(self):
-        lines = [line_of("X" + chr(65 + n * 7 % 6), "ABCD"[n * 5 % 4], (50, 60)[n // 12 % 2], 1 + n * 37 % 101)
-                 for n in range(900)]
-        text = b"".join(lines)
-        self.assertLessEqual(len(text), 65536)
-        self.agree(text, listing(text))
+        self.assertLessEqual(len(self.MANY), 65536)
+        self.agree(self.MANY, listing(self.MANY))
 
     def test_longest_input(self):
         text = LINE + b"\n" * (65536 - len(LINE))
-        self.agree(text, [b"XA,B,50,12"])
+        self.agree(text, ["XA,B,50,12"])
         self.assertEqual(self.listed("preview", stdin=text + b"\n"), b"too long\n")
         self.assertEqual(self.listed("preview", "/dev/zero"), b"too long\n")
 
@@ -1130,6 +1209,12 @@ class Usage(Case):
                                          "line nearest to measured VOLTS.\n"), shown)
         for words in ("whatever their class", "most 40 away", "equally far the lower", "0 to 2000", "is loaded"):
             self.assertIn(words, shown)
+        self.assertLessEqual(max(len(line) for line in shown.splitlines()), 100)
+
+    def test_help_of_preview(self):
+        """It tells the order of the rows, in lines that a terminal has room for."""
+        shown = self.done("help", "preview").decode()
+        self.assertIn(" the rows stand in the order of country, class and hertz.", shown)
         self.assertLessEqual(max(len(line) for line in shown.splitlines()), 100)
 
     def test_help_of_the_line(self):
@@ -1233,11 +1318,15 @@ def readme_line(start):
     return found[0]
 
 
-def readme_blocks():
-    """The blocks of commands, in their order; the last block of the README is a list of places."""
-    with open(os.path.join(ROOT, "README.md"), encoding="utf-8") as file:
-        text = file.read().split("## Where things are")[0]
+def blocks_of(text):
+    """The indented blocks, in their order and without the indent."""
     return [re.sub("(?m)^    ", "", block) for block in re.findall(r"\n\n((?:    .*\n)+)", text)]
+
+
+def readme_blocks():
+    """The blocks of commands; the last block of the README is a list of places."""
+    with open(os.path.join(ROOT, "README.md"), encoding="utf-8") as file:
+        return blocks_of(file.read().split("## Where things are")[0])
 
 
 def readme_shown():
@@ -1274,6 +1363,12 @@ class Readme(Case):
         for name, arguments in named.items():
             synopsis = self.done("help", name).decode().splitlines()[0]
             self.assertEqual(synopsis.split(" [--")[0], f"usage: gridprofile {name} {arguments}")
+
+    def test_order_of_the_preview(self):
+        """In the words of its help."""
+        with open(os.path.join(ROOT, "README.md"), encoding="utf-8") as file:
+            row = re.search(r"^\| `preview .*\| lists, (in the order of .+), what ", file.read(), re.M)
+        self.assertIn(f" {row.group(1)}.", self.done("help", "preview").decode())
 
 
 def formats():
@@ -1327,6 +1422,23 @@ class Formats(Case):
             self.assertEqual(file.read(), package)
         for whole in (package[:SIGNATURE], package):
             self.assertIn("\n    " + shake(whole, 32).hex(" ").upper() + "\n", formats())
+
+    def test_worked_preview(self):
+        """In every order of its lines; and what the worked `GP2` line after them changes."""
+        section = formats().split("\n## Preview\n")[1].split("\n## ")[0]
+        lines, shown = (block.encode() for block in blocks_of(section))
+        words = " ".join(section.split())
+        self.assertIn(" and it is the same for these four lines in any other order. ", words)
+        row, newer, older = re.search(r" With the worked `GP2` line after them, `(.*?)` has (\d+) in place of (\d+); "
+                                      r"its row stays where it is\.", words).groups()
+        then = shown.replace(f"\n{row},{older}\n".encode(), f"\n{row},{newer}\n".encode())
+        self.assertNotEqual(then, shown)
+        self.assertIn(f"\n    {RATE_LINE.decode()}", formats())
+        orders = list(itertools.permutations(lines.splitlines(keepends=True)))
+        self.assertEqual(len(orders), 24)
+        for text in map(b"".join, orders):
+            self.assertEqual(self.done("preview", stdin=text), shown)
+            self.assertEqual(self.done("preview", stdin=text + RATE_LINE), then)
 
     def commands(self, category):
         """Those of the document, as a reader pastes them, with the words that its table has for the category."""

@@ -15,7 +15,7 @@ import time
 
 from cli_case import (ARCHIVE, CATEGORIES, DEVICE, FIFTH, FILE_TROUBLE, FIRST, GIVEN, IMAGE, KINDS, LINE, LINE_77,
                       LINE_C, MEASURED, NO_RANDOM_BYTES, PRIVATE, PROGRAM, ROOT, SALT, SELF_CHECK_FAILED, SIGNATURE,
-                      STORE, WRONG_USAGE, Case, fingerprint, line_of, sealed, shake)
+                      STORE, WRONG_USAGE, Case, fingerprint, line_of, listing_of, sealed, shake)
 from test_cli_files import HIDDEN, NOBODY, READS_INPUT, WRITES_OUTPUT, Memory, call_of, hidden, wait_for
 
 EMPTY = sealed(bytes(IMAGE))
@@ -934,7 +934,7 @@ class SmallStack(Case):
             self.assertEqual(self.done("lookup", name + "store", *DEVICE, **small), LINE)
             self.assertTrue(self.done("nearest", name + "store", *MEASURED, **small).startswith(LINE))
             self.done("show", name + "store", **small)
-            self.assertIn(b"\nXA,B,50,12\n", self.done("preview", "line", **small))
+            self.assertEqual(self.done("preview", "line", **small), listing_of(["XA,B,50,12"]))
 
 
 class Many(Case):

@@ -18,28 +18,35 @@ fn row(profile: &Profile) -> String {
     format!("{}{},{},{hertz},{serial}\n", char::from(a), char::from(b), char::from(class))
 }
 
-/// The listing, its rows sorted: their order is open.
+/// The order of the rows, the least first: country (first letter, then second), class, hertz. No two stored profiles
+/// have the same, and so the serial does not count.
+fn place(profile: &Profile) -> ([u8; 2], u8, u32) {
+    (profile.country, profile.class, profile.hertz)
+}
+
+/// What the lines of an input leave stored: refused lines and an unfinished last one are skipped.
+fn stored(input: &[u8]) -> Store {
+    let mut store = Store::default();
+    for piece in input.split_inclusive(|&byte| byte == b'\n').filter(|piece| piece.ends_with(b"\n")) {
+        if let Ok(profile) = read_line(piece) {
+            let _ = store.put(profile, &Device::of(&profile)); // one that is refused changes nothing
+        }
+    }
+    store
+}
+
+/// The header, then the rows of these profiles as they stand.
+fn table(profiles: &[Profile]) -> String {
+    HEADER.to_string() + &profiles.iter().map(row).collect::<String>()
+}
+
 pub fn listing(input: &[u8]) -> String {
     if input.len() > LONGEST_INPUT {
         return TOO_LONG.to_string();
     }
-    let mut store = Store::default();
-    for piece in input.split_inclusive(|&byte| byte == b'\n').filter(|piece| piece.ends_with(b"\n")) {
-        if let Ok(profile) = read_line(piece) {
-            let _ = store.put(profile, &Device::of(&profile)); // a refused line is skipped
-        }
-    }
-    let rows = store.sorted().iter().map(row).collect::<String>();
-    in_order(&(HEADER.to_string() + &rows))
-}
-
-/// A listing with the lines after its first one sorted.
-pub fn in_order(listing: &str) -> String {
-    let mut lines: Vec<&str> = listing.split_inclusive('\n').collect();
-    if let Some(rows) = lines.get_mut(1..) {
-        rows.sort();
-    }
-    lines.concat()
+    let mut profiles = stored(input).profiles().to_vec();
+    profiles.sort_by_key(place);
+    table(&profiles)
 }
 
 /// Writes the listing at the front of the lent bytes; the length comes back, or as it was.

@@ -65,6 +65,11 @@ impl Store {
         bytes
     }
 
+    /// All profiles, in the order of their slots.
+    pub fn profiles(&self) -> &[Profile] {
+        &self.0
+    }
+
     /// All profiles, in an order that depends on nothing else.
     pub fn sorted(&self) -> Vec<Profile> {
         let mut profiles = self.0.clone();

@@ -197,8 +197,9 @@ void print_fingerprint(FILE *to, const struct category *category, const uint8_t 
 /* store_file.c: a store's image with its checksum behind it. `open_store` looks at what was read and
  * sets the length to the image's where there is one, `read_store` also reads it, `check_slots` looks at
  * what the image holds, `blame_store` at whether that is why a search in it failed; each answers 0 or
- * the exit status. `is_same_triple` tells whether two profiles are for one country, class and hertz: a
- * store has one for each. */
+ * the exit status. `slot_at` is the profile of a slot. `is_same_triple` tells whether two profiles are
+ * for one country, class and hertz: a store has one for each. `compare_triples` tells, as memcmp does,
+ * which comes first where profiles are listed: by country, then class, then hertz. */
 #define CHECKSUM_BYTES 32
 #define STORE_FILE_BYTES (GRIDPROFILE_STORE_IMAGE_BYTES + CHECKSUM_BYTES)
 struct input store_input(const char *path, uint8_t *bytes);
@@ -207,6 +208,8 @@ int read_store(struct input *store);
 void seal_store(uint8_t *bytes);
 int check_slots(const struct input *store);
 int blame_store(const char *command, int answer, const struct input *store);
+const uint8_t *slot_at(const uint8_t *image, size_t slot);
+int compare_triples(const uint8_t *one, const uint8_t *other);
 int is_same_triple(const uint8_t *one, const uint8_t *other);
 
 /* verify.c: the loader's answers 1 to 5, in its order, for any device and any store. */

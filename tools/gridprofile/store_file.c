@@ -46,7 +46,7 @@ void seal_store(uint8_t *bytes)
     make_checksum(bytes, bytes + GRIDPROFILE_STORE_IMAGE_BYTES);
 }
 
-static const uint8_t *slot_at(const uint8_t *image, size_t slot)
+const uint8_t *slot_at(const uint8_t *image, size_t slot)
 {
     return image + slot * GRIDPROFILE_PROFILE_IMAGE_BYTES;
 }
@@ -68,11 +68,16 @@ static int is_profile(const uint8_t *slot)
 }
 
 /* Country and class stand side by side; serial and volts come before the hertz, and do not count. */
-int is_same_triple(const uint8_t *one, const uint8_t *other)
+int compare_triples(const uint8_t *one, const uint8_t *other)
 {
     size_t letters = GRIDPROFILE_SERIAL_OFFSET - GRIDPROFILE_COUNTRY_OFFSET;
-    return memcmp(one + GRIDPROFILE_COUNTRY_OFFSET, other + GRIDPROFILE_COUNTRY_OFFSET, letters) == 0 &&
-           hertz_of(one) == hertz_of(other);
+    int by = memcmp(one + GRIDPROFILE_COUNTRY_OFFSET, other + GRIDPROFILE_COUNTRY_OFFSET, letters);
+    return by != 0 ? by : (hertz_of(one) > hertz_of(other)) - (hertz_of(one) < hertz_of(other));
+}
+
+int is_same_triple(const uint8_t *one, const uint8_t *other)
+{
+    return compare_triples(one, other) == 0;
 }
 
 /* Whether an earlier slot has the same country, class and hertz. */

@@ -53,11 +53,13 @@ static const struct page pages[] = {
      "nominal volts, and how far they are above or below. VOLTS is a whole number 0 to 2000.\n"
      "It only suggests: nothing is loaded, and the store is only read.\n"},
     {"show", "FILE", "", "print a package, a store, a line or a key in words",
-     "It verifies nothing. Of a key or a package it says the category. Of a key it prints the\n"
-     "fingerprint: 16 bytes of SHAKE128 of the key at category 1, 24 and 32 of SHAKE256 at 3 and 5.\n"
+     "It verifies nothing. A store is shown in the order of country, class and hertz. Of a key or a\n"
+     "package it says the category. Of a key it prints the fingerprint: 16 bytes of SHAKE128 of the\n"
+     "key at category 1, 24 and 32 of SHAKE256 at 3 and 5.\n"
      "A line begins with GP1 or GP2; a file of 77 bytes that does not is taken for a key.\n"},
     {"preview", "[FILE]", "", "list what a device would hold after these lines",
-     "The lines are taken as if they were signed; without FILE they come from standard input. How many\n"
+     "The lines are taken as if they were signed; without FILE they come from standard input. Each\n"
+     "profile has one row, and the rows stand in the order of country, class and hertz. How many lines\n"
      "were skipped, and why the first was, is said on standard error.\n"},
 };
 

@@ -1,15 +1,15 @@
 -- What the preview answers. Assumes nothing.
 use mathlib.Core.Path.{_≡_, refl, _∙_, sym, ap}
 use mathlib.Core.Bool.{Bool, true, false}
-use mathlib.Core.List.{List, [], _∷_, _++_}
+use mathlib.Core.List.{List, [], _∷_, _++_, Permᴰ·symm}
 use Prim.Native.Nat.{ℕ, _*_, _≤_, _<_}
 use native.Mathlib.Omega.{arith}
-use lib.Dec.{T, eqb, ltb}
+use lib.Dec.{T, eqb}
 use lib.ListN.{length, drop, length-append}
-use borrow.Author.Tests.{eq-eqb, ne-eqb, ltb-true, ltb-false}
+use borrow.Author.Tests.{eq-eqb, ne-eqb, lt-ltb, le-ltb}
 use Rattle.outcome.specs.Answer.{pick, bad-size}
 use Rattle.decimal.specs.Decimal.{Room, Appended}
-use Rattle.decimal.proofs.Stores.{front-length, front}
+use Rattle.decimal.proofs.Stores.{appended-as, front-length, front}
 use Rattle.profile.specs.declared.Profile.{Profile}
 use Rattle.profile.specs.Rules.{Class, valid}
 use Rattle.profile.specs.Line.{readLine}
@@ -18,8 +18,10 @@ use Rattle.outcome.specs.Result.{Result, done, refused}
 use Rattle.store.specs.Stored.{capacity, insert}
 use Rattle.store.specs.Reached.{Call, answerTo, Step, ValidCall, Run, Reached, model}
 use Rattle.store.proofs.KeyLaws.{device-of-valid}
-use Rattle.store.proofs.StoredLaws.{find-insert, perm-eq}
-use Rattle.store.proofs.Reached.{reached-hold}
+use Rattle.store.proofs.StoredLaws.{find-insert, perm-eq, perm-length}
+use Rattle.store.proofs.Reached.{perm-valid, reached-hold}
+use Rattle.order.specs.Order.{inOrder}
+use Rattle.order.proofs.Theorems.{order-sorts, order-ascending, perm-order, reached-order as order-of-run}
 use Rattle.preview.specs.declared.Previewed.{Previewed}
 use Rattle.preview.specs.declared.Previewed.the-variants.{Length, BadSize}
 use Rattle.preview.specs.Preview.{
@@ -34,7 +36,9 @@ use Rattle.preview.specs.Preview.{
   tooLong,
   rows,
   longestRow,
-  Shows,
+  listing,
+  RowsAscend,
+  SameListing,
   lentSize,
   previewAnswer,
   Previews,
@@ -95,39 +99,47 @@ shown-once table input =
     let holds = reached-hold table (callsIn table (cut input)) (shown table input) (shown-reached table input) in
     (holds .distinct, holds .fits)
 
+-- what is reached, in order, is what is shown, in order
+pub reached-order : (table : List Class) (input : List ℕ) (ps : List Profile)
+    → Reached table (callsIn table (cut input)) ps → inOrder ps ≡ inOrder (shown table input)
+reached-order table input ps run = order-of-run table (callsIn table (cut input)) ps run .0
+
+pub rows-ascend : (table : List Class) → RowsAscend table
+rows-ascend table input =
+    (order-sorts (shown table input) .1, order-ascending (shown table input) (shown-once table input .0))
+
 -- the rows of what is reached have room
 pub reached-room : (table : List Class) (calls : List Call) (ps : List Profile) → Reached table calls ps
-    → length (rows ps) ≤ longestRow * capacity
+    → length (rows (inOrder ps)) ≤ longestRow * capacity
+unfolding Permᴰ·symm
 reached-room table calls ps run =
     let holds = reached-hold table calls ps run in
-    omega (arith, rows-fit table ps (holds .all-valid), holds .fits)
+    let perm = order-sorts ps .1 in
+    let all = perm-valid table (Permᴰ·symm perm) (holds .all-valid) in
+    omega (arith, rows-fit table (inOrder ps) all, holds .fits, perm-length perm)
 
 -- ---- the text
 
 module _ (table : List Class) (input : List ℕ) where
-  pub shows-too-long : longestInput < length input → Shows table input tooLong
-  shows-too-long long = record { listed = λ h. absurd (omega arith); too-long = λ h. refl }
+  pub listing-long : longestInput < length input → listing table input ≡ tooLong
+  unfolding listing
+  listing-long long = rw (lt-ltb longestInput (length input) long)
 
-  pub shows-listed : length input ≤ longestInput → (ps : List Profile) → Reached table (callsIn table (cut input)) ps
-      → Shows table input (header ++ rows ps)
-  shows-listed size ps run =
-      let holds = reached-hold table (callsIn table (cut input)) ps run in
-      record {
-        listed = λ h. record { order = ps; each-once = holds .listed; all = refl };
-        too-long = λ h. absurd (omega arith);
-      }
+  pub listing-rows : length input ≤ longestInput → listing table input ≡ header ++ rows (inOrder (shown table input))
+  unfolding listing
+  listing-rows size = rw (le-ltb longestInput (length input) size)
 
-  -- every input is shown by some text
-  some-text : (text : List ℕ) × Shows table input text
-  some-text = go (ltb longestInput (length input)) refl
-    where
-      go : (long : Bool) → ltb longestInput (length input) ≡ long → (text : List ℕ) × Shows table input text
-      go true e = (tooLong, shows-too-long (ltb-true longestInput (length input) e))
-      go false e = (
-        header ++ rows (shown table input),
-        shows-listed (ltb-false longestInput (length input) e) (shown table input)
-            (shown-reached table input),
-      )
+  -- the rows of what was reached
+  pub listing-reached : length input ≤ longestInput → (ps : List Profile) → Reached table (callsIn table (cut input)) ps
+      → header ++ rows (inOrder ps) ≡ listing table input
+  listing-reached size ps run =
+      ap (λ (l : List Profile). header ++ rows l) (reached-order table input ps run) ∙ sym (listing-rows size)
+
+pub same-listing : (table : List Class) → SameListing table
+same-listing table a b short brief perm =
+    listing-rows table a short
+    ∙ ap (λ (l : List Profile). header ++ rows l) (perm-order perm (shown-once table a .0))
+    ∙ sym (listing-rows table b brief)
 
 -- ---- the answer
 
@@ -135,20 +147,15 @@ module _ (table : List Class) (input old : List ℕ) where
   pub previews-refused : (length old ≡ lentSize → ⊥) → Previews table input old BadSize old
   previews-refused size =
       let other = ne-eqb (length old) lentSize size in
-      record { text = some-text table input .0; shows = some-text table input .1; answered = rw other; content = refl }
+      record { answered = rw other; content = refl }
 
-  pub previews-done : {n : ℕ} {text new : List ℕ} → length old ≡ lentSize → Shows table input text
-      → Appended old 0 text new n
-      → n ≤ lentSize → Previews table input old (Length n) new
-  previews-done {n} {text} {new} size shows put most =
+  pub previews-done : {n : ℕ} {text new : List ℕ} → length old ≡ lentSize → text ≡ listing table input
+      → Appended old 0 text new n → n ≤ lentSize → Previews table input old (Length n) new
+  previews-done {n} {text} {new} size its put most =
       let right = eq-eqb (length old) lentSize size in
-      let room : Room old 0 text = record { room = omega (arith, put .place) } in
-      record {
-        text = text;
-        shows = shows;
-        answered = rw right (ap done (front-length put room));
-        content = front put room;
-      }
+      let whole : Appended old 0 (listing table input) new n = appended-as its put in
+      let room : Room old 0 (listing table input) = record { room = omega (arith, whole .place) } in
+      record { answered = rw right (ap done (front-length whole room)); content = front whole room }
 
 -- the length that is answered lies within the lent bytes
 pub length-within : {table : List Class} {input old lent : List ℕ} {r : Previewed} {n : ℕ}
@@ -156,11 +163,14 @@ pub length-within : {table : List Class} {input old lent : List ℕ} {r : Previe
 length-within {table} {input} {old} {lent} {r} {n} previews answer =
     go (eqb (length old) lentSize) (sym (ap previewAnswer answer) ∙ previews .answered)
   where
-    whole : lent ≡ previews .text ++ drop (length (previews .text)) old
+    text : List ℕ
+    text = listing table input
+
+    whole : lent ≡ text ++ drop (length text) old
     whole = previews .content ∙ rw answer
 
-    go : (right : Bool) → done n ≡ pick right (done (length (previews .text))) (refused bad-size) → n ≤ length lent
+    go : (right : Bool) → done n ≡ pick right (done (length text)) (refused bad-size) → n ≤ length lent
     go true e =
-        let same : n ≡ length (previews .text) = cc in
-        omega (arith, ap length whole, length-append (previews .text) (drop (length (previews .text)) old))
+        let same : n ≡ length text = cc in
+        omega (arith, ap length whole, length-append text (drop (length text) old))
     go false e = let z : _≡_ {A = ℕ} 0 1 = cc in absurd (omega arith)

@@ -11,30 +11,25 @@ use Rattle.outcome.specs.Result.{done, refused, answer}
 use Rattle.profile.specs.Rules.{Class}
 use Rattle.preview.specs.declared.Previewed.{Previewed}
 use Rattle.preview.specs.declared.Previewed.the-variants.{Length, BadSize}
-use Rattle.preview.specs.Preview.{lentSize, previewAnswer, Previews, PreviewsTo}
+use Rattle.preview.specs.Preview.{listing, lentSize, previewAnswer, Previews, PreviewsTo}
 
 module _ {table : List Class} {input old lent : List ℕ} {r : Previewed}
     (previews : Previews table input old r lent) where
   -- the test of the size decides the answer
   decided : (right : Bool) → eqb (length old) lentSize ≡ right
-      → previewAnswer r ≡ pick right (done (length (previews .text))) (refused bad-size)
+      → previewAnswer r ≡ pick right (done (length (listing table input))) (refused bad-size)
   decided right e = previews .answered ∙ rw e
 
   pub listed : {n : ℕ} (before : ℕ) → r ≡ Length n → PreviewsTo table input old before 0 lent n
   listed {n} before is = go (eqb (length old) lentSize) refl
     where
-      whole : lent ≡ previews .text ++ drop (length (previews .text)) old
+      whole : lent ≡ listing table input ++ drop (length (listing table input)) old
       whole = previews .content ∙ rw is
 
       go : (right : Bool) → eqb (length old) lentSize ≡ right → PreviewsTo table input old before 0 lent n
       go true e =
-          let length-is : done n ≡ done (length (previews .text)) = sym (ap previewAnswer is) ∙ decided true e in
-          record {
-            text = previews .text;
-            shows = previews .shows;
-            answers = record { answer = sym (rw e); content = whole };
-            size = cc;
-          }
+          let length-is : done n ≡ done (length (listing table input)) = sym (ap previewAnswer is) ∙ decided true e in
+          record { answers = record { answer = sym (rw e); content = whole }; size = cc }
       go false e =
           let never : done n ≡ refused bad-size = sym (ap previewAnswer is) ∙ decided false e in
           let z : _≡_ {A = ℕ} 0 1 = cc in
@@ -48,13 +43,8 @@ module _ {table : List Class} {input old lent : List ℕ} {r : Previewed}
 
       go : (right : Bool) → eqb (length old) lentSize ≡ right → PreviewsTo table input old before 1 lent before
       go true e =
-          let never : refused bad-size ≡ done (length (previews .text)) = sym (ap previewAnswer is) ∙ decided true e in
+          let never : refused bad-size ≡ done (length (listing table input)) =
+          sym (ap previewAnswer is) ∙ decided true e in
           let z : _≡_ {A = ℕ} 0 1 = cc in
           absurd (omega arith)
-      go false e =
-          record {
-            text = previews .text;
-            shows = previews .shows;
-            answers = record { answer = sym (rw e); content = kept };
-            size = refl;
-          }
+      go false e = record { answers = record { answer = sym (rw e); content = kept }; size = refl }

@@ -1,14 +1,13 @@
 -- Laws of the rows and of the bytes that are written. Assumes nothing.
 use mathlib.Core.Path.{_≡_, refl, _∙_, sym, ap}
-use mathlib.Core.Bool.{Bool, true, false}
-use mathlib.Core.List.{List, [], _∷_, _++_, append-assoc, append-nil}
-use Prim.Native.Nat.{ℕ, _+_, _-_, _*_, _≤_, _<_}
+use mathlib.Core.Bool.{true}
+use mathlib.Core.List.{List, [], _∷_, _++_, append-assoc, append-nil, map-append}
+use Prim.Native.Nat.{ℕ, _+_, _-_, _≤_, _<_}
 use native.Mathlib.Numerals.{add-one}
 use native.Mathlib.Omega.{arith}
 use lib.Dec.{T}
-use lib.ListN.{length, set, take, drop, take-append-drop, length-append}
+use lib.ListN.{length, getD, set, take, drop, take-append-drop, length-append}
 use lib.Seq.{sets-eq, take-suc, take-all, drop-drop}
-use Rattle.outcome.specs.Answer.{pick}
 use Rattle.decimal.specs.Decimal.{decimal, lastDigits, Room, Appended}
 use Rattle.decimal.proofs.Stores.{sets-front, one-byte, then, room-as, room-first, room-after}
 use Rattle.profile.specs.declared.Profile.{Profile}
@@ -28,11 +27,8 @@ use Rattle.profile.specs.Rules.{
 }
 use Rattle.profile.specs.Line.{comma, lineFeed}
 use Rattle.profile.proofs.RuleLaws.{and-first, parts, valid-hertz, most, range-bounds}
-use Rattle.image.specs.Image.{profileOf}
-use Rattle.store.specs.Stored.{capacity, Slot, slotOf, slotsOf, slotBytes, profilesIn, stored}
-use Rattle.store.proofs.SlotLaws.{unset}
-use Rattle.store.proofs.PlaceLaws.{slots-length, slot-at}
-use Rattle.preview.specs.Preview.{keyBytes, row, rows, longestRow, RowsFit, usedIn}
+use Rattle.order.specs.Places.{profileIn, profilesAt}
+use Rattle.preview.specs.Preview.{keyBytes, row, rows, longestRow, RowsFit}
 
 -- ---- bytes copied into a part
 
@@ -122,68 +118,44 @@ rows-fit table (p ∷ ps) all =
 
 -- ---- the rows of slots
 
-module _ (slot : List ℕ) where
-  pub no-row : slotOf slot .used ≡ false → rows (usedIn slot) ≡ []
-  unfolding rows profilesIn
-  no-row e = rw e
-
-  pub one-row : slotOf slot .used ≡ true → rows (usedIn slot) ≡ row (profileOf slot)
-  unfolding rows profilesIn
-  one-row e = rw e (append-nil (row (profileOf slot)))
-
-profiles-append : (ss ts : List Slot) → profilesIn (ss ++ ts) ≡ profilesIn ss ++ profilesIn ts
-unfolding profilesIn
-profiles-append [] ts = refl
-profiles-append (s ∷ ss) ts = go (s .used) (profiles-append ss ts)
-  where
-    go : (used : Bool) → profilesIn (ss ++ ts) ≡ profilesIn ss ++ profilesIn ts
-        → pick used (s .profile ∷ profilesIn (ss ++ ts)) (profilesIn (ss ++ ts))
-        ≡ pick used (s .profile ∷ profilesIn ss) (profilesIn ss) ++ profilesIn ts
-    go true others = ap (λ (l : List Profile). s .profile ∷ l) others
-    go false others = others
-
 rows-append : (ps qs : List Profile) → rows (ps ++ qs) ≡ rows ps ++ rows qs
 unfolding rows
 rows-append [] qs = refl
 rows-append (p ∷ ps) qs =
     ap (λ (l : List ℕ). row p ++ l) (rows-append ps qs) ∙ sym (append-assoc (row p) (rows ps) (rows qs))
 
--- the rows of the first slots of an image, when a slot's are written after those before it
-abbrev pub rowsBefore : List ℕ → ℕ → List ℕ
-rowsBefore image i = rows (profilesIn (take i (slotsOf capacity image)))
+module _ (image places : List ℕ) where
+  -- the rows of the slots at the first places
+  abbrev pub rowsBefore : ℕ → List ℕ
+  rowsBefore i = rows (profilesAt image (take i places))
 
--- the rows of all slots begin with them
-rows-begin : (image : List ℕ) (i : ℕ)
-    → rowsBefore image i ++ rows (profilesIn (drop i (slotsOf capacity image))) ≡ rows (stored image)
-rows-begin image i =
-    let ss : List Slot = slotsOf capacity image in
-    sym
-    (ap (λ (l : List Slot). rows (profilesIn l)) (sym (take-append-drop i ss))
-    ∙ (ap rows (profiles-append (take i ss) (drop i ss))
-    ∙ rows-append (profilesIn (take i ss)) (profilesIn (drop i ss))))
-
-module _ (image : List ℕ) (i : ℕ) where
-  pub rows-more : i < capacity → rowsBefore image i ++ rows (usedIn (slotBytes i image)) ≡ rowsBefore image (i + 1)
-  rows-more h =
-      let ss : List Slot = slotsOf capacity image in
-      let slot : Slot = slotOf (slotBytes i image) in
-      let size : length ss ≡ capacity = slots-length capacity image in
-      let next : take (i + 1) ss ≡ take i ss ++ (slot ∷ []) =
-      rw (add-one i) (take-suc ss i unset (omega arith))
-      ∙ ap (λ (s : Slot). take i ss ++ (s ∷ [])) (slot-at capacity i image h) in
+  -- the rows of all begin with them
+  rows-begin : (i : ℕ) → rowsBefore i ++ rows (profilesAt image (drop i places)) ≡ rows (profilesAt image places)
+  rows-begin i =
       sym
-      (ap (λ (l : List Slot). rows (profilesIn l)) next
-      ∙ (ap rows (profiles-append (take i ss) (slot ∷ []))
-      ∙ rows-append (profilesIn (take i ss)) (profilesIn (slot ∷ []))))
+      (ap (λ (l : List ℕ). rows (profilesAt image l)) (sym (take-append-drop i places))
+      ∙ (ap rows (map-append (profileIn image) (take i places) (drop i places))
+      ∙ rows-append (profilesAt image (take i places)) (profilesAt image (drop i places))))
 
-  -- so that where all have room, a slot's have room after those before it
-  pub slot-room : {l m : List ℕ} {at next : ℕ} → i < capacity → Room l at (rows (stored image))
-      → Appended l at (rowsBefore image i) m next → Room m next (rows (usedIn (slotBytes i image)))
-  slot-room h room written =
-      room-after (rows (usedIn (slotBytes i image))) written
-      (room-as (sym (rows-more h)) (room-first _ (room-as (sym (rows-begin image (i + 1))) room)))
+  -- a slot's row is written behind those before it
+  pub rows-more : (i : ℕ) → i < length places
+      → rowsBefore i ++ row (profileIn image (getD places i 0)) ≡ rowsBefore (i + 1)
+  unfolding rows
+  rows-more i h =
+      let slot : ℕ = getD places i 0 in
+      let next : take (i + 1) places ≡ take i places ++ (slot ∷ []) = rw (add-one i) (take-suc places i 0 h) in
+      sym
+      (ap (λ (l : List ℕ). rows (profilesAt image l)) next
+      ∙ (ap rows (map-append (profileIn image) (take i places) (slot ∷ []))
+      ∙ rows-append (profilesAt image (take i places)) (profileIn image slot ∷ [])
+      ∙ ap (λ (l : List ℕ). rowsBefore i ++ l) (append-nil (row (profileIn image slot)))))
 
-  pub rows-all : capacity ≤ i → rowsBefore image i ≡ rows (stored image)
-  rows-all h =
-      let size : length (slotsOf capacity image) ≡ capacity = slots-length capacity image in
-      ap (λ (l : List Slot). rows (profilesIn l)) (take-all i (slotsOf capacity image) (omega arith))
+  -- so that where all have room, it has room
+  pub row-room : {l m : List ℕ} {at next : ℕ} (i : ℕ) → i < length places → Room l at (rows (profilesAt image places))
+      → Appended l at (rowsBefore i) m next → Room m next (row (profileIn image (getD places i 0)))
+  row-room i h room written =
+      room-after (row (profileIn image (getD places i 0))) written
+      (room-as (sym (rows-more i h)) (room-first _ (room-as (sym (rows-begin (i + 1))) room)))
+
+  pub rows-all : (i : ℕ) → length places ≤ i → rowsBefore i ≡ rows (profilesAt image places)
+  rows-all i h = ap (λ (l : List ℕ). rows (profilesAt image l)) (take-all i places h)

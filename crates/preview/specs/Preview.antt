@@ -1,21 +1,22 @@
 -- What a device would hold, listed before anything is signed (document 01, "Profile line, package, shelf", the preview
--- program; document 02, M-104, for the hertz).
+-- program; document 02, M-104, for the hertz, and M-106, for the order of the rows).
 -- Assumes nothing.
 use mathlib.Core.Path.{_≡_}
 use mathlib.Core.List.{List, [], _∷_, _++_}
 use Prim.Native.Nat.{ℕ, _-_, _*_, _≤_, _<_}
-use lib.Dec.{eqb}
+use lib.Dec.{eqb, ltb}
 use lib.ListN.{length, take, drop}
-use Rattle.outcome.specs.Answer.{bad-size, Check, _unless_, pick, Answers}
+use Rattle.outcome.specs.Answer.{bad-size, Check, _unless_, pick, AnswersFront}
 use Rattle.decimal.specs.Decimal.{decimal}
 use Rattle.profile.specs.declared.Profile.{Profile}
 use Rattle.outcome.specs.Result.{Result, done, refused, answer, numberIn}
 use Rattle.profile.specs.Rules.{Class}
 use Rattle.profile.specs.Line.{comma, lineFeed, readLine}
 use Rattle.store.specs.declared.Device.{Device}
-use Rattle.store.specs.Stored.{capacity, slotOf, profilesIn, Distinct}
+use Rattle.store.specs.Stored.{capacity, Distinct}
 use Rattle.store.specs.Calls.{Perm}
 use Rattle.store.specs.Reached.{Call, AllValid, model}
+use Rattle.order.specs.Order.{inOrder, Ascending}
 use Rattle.preview.specs.declared.Previewed.{Previewed}
 use Rattle.preview.specs.declared.Previewed.the-variants.{Length, BadSize}
 
@@ -104,21 +105,21 @@ longestRow = 19
 abbrev pub RowsFit : List Class → Type 0
 RowsFit table = (ps : List Profile) → AllValid table ps → length (rows ps) ≤ longestRow * length ps
 
--- the profile of a slot of a store's image, where the slot is used
-abbrev pub usedIn : List ℕ → List Profile
-usedIn bytes = profilesIn (slotOf bytes ∷ [])
+-- The text that shows an input: the header and a row for each profile, by country, class and hertz (crate order); or
+-- that the input is too long.
+unfoldable pub listing : List Class → List ℕ → List ℕ
+listing table input = pick (ltb longestInput (length input)) tooLong (header ++ rows (inOrder (shown table input)))
 
--- The order of the rows is the program's choice. Every choice has in common the header, and after it a row for each of
--- these profiles, each once, and nothing else.
-pub record Lists (ps : List Profile) (text : List ℕ) : Type 0 where
-  pub order : List Profile
-  pub each-once : Perm order ps
-  pub all : text ≡ header ++ rows order
+-- The rows are those of the stored profiles, each once, each before all later ones; and inputs that store the same
+-- profiles, in whatever order their lines come, have the same listing (the proofs stand in proofs/EntryLaws.antt).
+abbrev pub RowsAscend : List Class → Type 0
+RowsAscend table =
+    (input : List ℕ) → Perm (inOrder (shown table input)) (shown table input) × Ascending (inOrder (shown table input))
 
--- the text that shows an input
-pub record Shows (table : List Class) (input text : List ℕ) : Type 0 where
-  pub listed : length input ≤ longestInput → Lists (shown table input) text
-  pub too-long : longestInput < length input → text ≡ tooLong
+abbrev pub SameListing : List Class → Type 0
+SameListing table =
+    (a b : List ℕ) → length a ≤ longestInput → length b ≤ longestInput → Perm (shown table a) (shown table b)
+    → listing table a ≡ listing table b
 
 -- ---- the answer
 
@@ -134,18 +135,13 @@ abbrev pub previewAnswer : Previewed → Result ℕ
 previewAnswer (Length n) = done n
 previewAnswer BadSize = refused bad-size
 
--- The answer is the length of a text that shows the input. The text stands at the front of the lent bytes, and past it
--- what they held; after a refusal all is as it was.
+-- The answer is the length of the listing, which stands at the front of the lent bytes, and past it what they held; after
+-- a refusal all is as it was.
 pub record Previews (table : List Class) (input old : List ℕ) (r : Previewed) (lent : List ℕ) : Type 0 where
-  pub text : List ℕ
-  pub shows : Shows table input text
-  pub answered : previewAnswer r ≡ answer (previewChecks old) (length text)
-  pub content : lent ≡ pick (eqb (numberIn (previewAnswer r)) 0) (text ++ drop (length text) old) old
+  pub answered : previewAnswer r ≡ answer (previewChecks old) (length (listing table input))
+  pub content : lent
+      ≡ pick (eqb (numberIn (previewAnswer r)) 0) (listing table input ++ drop (length (listing table input)) old) old
 
--- The same with a number for an answer, and the length in a number that is lent, which a refusal leaves as it was
-pub record PreviewsTo (table : List Class) (input old : List ℕ) (before answer : ℕ) (lent : List ℕ) (after : ℕ)
-    : Type 0 where
-  pub text : List ℕ
-  pub shows : Shows table input text
-  pub answers : Answers (previewChecks old) (text ++ drop (length text) old) old answer lent
-  pub size : after ≡ pick (eqb answer 0) (length text) before
+-- the same with a number for an answer, and the length in a number that is lent
+abbrev pub PreviewsTo : List Class → List ℕ → List ℕ → ℕ → ℕ → List ℕ → ℕ → Type 0
+PreviewsTo table input old = AnswersFront (previewChecks old) (listing table input) old

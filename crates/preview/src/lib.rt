@@ -1,8 +1,7 @@
 // The preview: what a device would hold after the lines of an input, each stored as if it were signed.
 use buffers::copy;
 use decimal::write_decimal;
-use image::PROFILE_SIZE;
-use image::read::read_profile;
+use order::order_slots;
 use outcome::BAD_SIZE;
 use profile::Profile;
 use profile::ReadLine;
@@ -10,8 +9,8 @@ use profile::read_line;
 use store::CAPACITY;
 use store::Device;
 use store::STORE_SIZE;
-use store::is_used;
 use store::put;
+use store::slots::profile_at;
 ghost use mathlib.Core.Path.{_≡_};
 ghost use Prim.Native.Nat.{_≤_};
 ghost use lib.Dec.{T};
@@ -20,11 +19,11 @@ ghost use Rattle.decimal.specs.Decimal.{Room, Appended};
 ghost use Rattle.outcome.specs.Result.{done};
 ghost use Rattle.profile.specs.Rules.{classes, valid};
 ghost use Rattle.profile.specs.Line.{readLine};
-ghost use Rattle.image.specs.Image.{profileSize};
 ghost use Rattle.store.specs.Stored.{storeSize, stored};
 ghost use Rattle.store.specs.Reached.{Run};
-ghost use Rattle.preview.specs.Preview.{cut, callsOf, callsIn, keyBytes, row, rows, usedIn, LineAt, Previews};
-ghost use Rattle.preview.specs.Preview.{PreviewsTo};
+ghost use Rattle.order.specs.Order.{inOrder};
+ghost use Rattle.order.specs.Places.{profilesAt, AreSlots};
+ghost use Rattle.preview.specs.Preview.{cut, callsOf, callsIn, keyBytes, row, rows, LineAt, Previews, PreviewsTo};
 
 // How many bytes are lent for the listing: the header and a row for each slot have room.
 pub const LENT_SIZE: usize = 331;
@@ -135,33 +134,35 @@ fn append_row(p: Profile, out: &mut [u8], at: usize) -> usize
     end + 1
 }
 
-// The row of a slot that is used.
-fn append_slot(slot: &[u8], out: &mut [u8], at: usize) -> usize
-    requires { ⌜ length (now slot) ≡ profileSize ⌝ }
-    requires { ⌜ Room (now out) at (rows (usedIn (now slot))) ⌝ }
-    ensures { λ r. ⌜ Appended (now (out .entry)) at (rows (usedIn (now (slot .entry)))) (now (out .exit)) r ⌝ }
-{
-    if !is_used(slot) {
-        return at;
-    }
-    append_row(read_profile(slot), out, at)
-}
-
-// The rows of all slots, in the order of the slots.
-fn append_rows(store: &[u8], out: &mut [u8], at: usize) -> usize
+// The rows of the slots at these places, in the order of the places.
+fn append_places(store: &[u8], places: &[u8], out: &mut [u8], at: usize) -> usize
     requires { ⌜ length (now store) ≡ storeSize ⌝ }
-    requires { ⌜ Room (now out) at (rows (stored (now store))) ⌝ }
-    ensures { λ r. ⌜ Appended (now (out .entry)) at (rows (stored (now (store .entry)))) (now (out .exit)) r ⌝ }
+    requires { ⌜ AreSlots (now places) ⌝ }
+    requires { ⌜ Room (now out) at (rows (profilesAt (now store) (now places))) ⌝ }
+    ensures { λ r.
+        ⌜ Appended (now (out .entry)) at (rows (profilesAt (now (store .entry)) (now (places .entry))))
+        (now (out .exit)) r ⌝ }
 {
     let mut next = at;
     let mut i: usize = 0;
-    while i < CAPACITY {
-        let start = PROFILE_SIZE * i;
-        let end = start + PROFILE_SIZE;
-        next = append_slot(&store[start..end], out, next);
+    while i < places.len() {
+        let slot = places[i];
+        next = append_row(profile_at(store, slot as usize), out, next);
         i += 1;
     }
     next
+}
+
+// The rows of everything stored, in order.
+fn append_rows(store: &[u8], out: &mut [u8], at: usize) -> usize
+    requires { ⌜ length (now store) ≡ storeSize ⌝ }
+    requires { ⌜ Room (now out) at (rows (inOrder (stored (now store)))) ⌝ }
+    ensures { λ r.
+        ⌜ Appended (now (out .entry)) at (rows (inOrder (stored (now (store .entry))))) (now (out .exit)) r ⌝ }
+{
+    let mut places = [0u8; CAPACITY];
+    let count = order_slots(store, &mut places);
+    append_places(store, &places[..count], out, at)
 }
 
 // Writes the listing at the front of the lent bytes. The store that the lines fill is a local one, empty at first.

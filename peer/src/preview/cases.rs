@@ -1,54 +1,26 @@
 //! Inputs for the preview.
 
+mod listed;
+
+pub use listed::{
+    BOTH_HERTZ, BOTH_KINDS, EXAMPLE, EXAMPLE_LISTED, LISTED, SIXTEEN, SIXTEEN_LISTED, TWO_CLASSES, USUAL,
+};
+
 use super::*;
 use crate::line::cases::{by_length, valid};
-use crate::line::{write_line, Profile, NOMINAL_HERTZ};
+use crate::line::{class_of, write_line, Profile, NOMINAL_HERTZ};
 use crate::rng::Rng;
+use listed::AFTER_SIXTEEN;
 
-/// The worked example.
-pub const EXAMPLE: &str = "\
-GP1,XA,B,12,230,50,1150,100,800,1500,1500,100,-2500,100
-GP1,XA,C,5,400,50,1100,200,850,1500,1500,100,-2500,100
-";
-
-/// Lines of both kinds: a rate point comes with a greater serial, and goes with one. The others are refused: for their
-/// rate, and twice for fields that belong to the other tag.
-pub const BOTH_KINDS: &str = "\
-GP1,XA,B,12,230,50,1150,100,800,1500,1500,100,-2500,100
-GP2,XA,B,13,230,50,1150,100,800,1500,1500,100,-2500,100,2000,500
-GP2,XA,B,14,230,50,1150,100,800,1500,1500,100,-2500,100,99,500
-GP1,XA,B,15,230,50,1150,100,800,1500,1500,100,-2500,100,2000,500
-GP2,XA,B,16,230,50,1150,100,800,1500,1500,100,-2500,100
-GP2,XA,C,5,400,50,1100,200,850,1500,1500,100,-2500,100,2000,500
-GP1,XA,C,6,400,50,1100,200,850,1500,1500,100,-2500,100
-";
-
-/// Both hertz of one country and class: each has a row, and its own serials decide, so that 1 at 60 hertz is taken
-/// after 13 at 50. Of each hertz one line comes too late.
-pub const BOTH_HERTZ: &str = "\
-GP1,XA,B,12,230,50,1150,100,800,1500,1500,100,-2500,100
-GP1,XA,C,5,400,50,1100,200,850,1500,1500,100,-2500,100
-GP2,XA,B,13,230,50,1150,100,800,1500,1500,100,-2500,100,2000,500
-GP1,XA,B,1,230,60,1150,100,800,1500,1500,100,-2500,100
-GP1,XA,B,12,230,50,1150,100,800,1500,1500,100,-2500,100
-GP2,XA,B,2,230,60,1150,100,800,1500,1500,100,-2500,100,2000,500
-GP1,XA,B,1,230,60,1150,100,800,1500,1500,100,-2500,100
-";
-
-/// The listings of these three, their rows sorted.
-pub const LISTED: [(&str, &str); 3] = [
-    (EXAMPLE, "COUNTRY,CLASS,HERTZ,SERIAL\nXA,B,50,12\nXA,C,50,5\n"),
-    (BOTH_KINDS, "COUNTRY,CLASS,HERTZ,SERIAL\nXA,B,50,13\nXA,C,50,6\n"),
-    (BOTH_HERTZ, "COUNTRY,CLASS,HERTZ,SERIAL\nXA,B,50,13\nXA,B,60,2\nXA,C,50,5\n"),
-];
-
-fn written(profile: &Profile) -> String {
+pub fn written(profile: &Profile) -> String {
     String::from_utf8(write_line(profile).expect("valid")).expect("letters and digits")
 }
 
-/// A valid line of one of a few countries, with a small serial, so that triples come again.
+/// A valid line of one of a few countries, with a small serial, so that triples come again. Nine countries differ in
+/// both letters.
 pub fn line(rng: &mut Rng, countries: usize) -> String {
-    let country = [b'X', b'A' + rng.below(countries) as u8];
+    let at = rng.below(countries) as u8;
+    let country = [b'X' + at / 3, b'A' + at % 3];
     written(&Profile { country, serial: 1 + rng.below(9) as u32, ..valid(rng) })
 }
 
@@ -58,6 +30,48 @@ fn lines(rng: &mut Rng, count: usize, countries: usize) -> String {
 
 fn reversed(lines: &str) -> String {
     lines.lines().rev().map(|line| line.to_string() + "\n").collect()
+}
+
+/// The lines in some other order.
+pub fn shuffled(rng: &mut Rng, lines: &str) -> String {
+    let mut all: Vec<&str> = lines.split_inclusive('\n').collect();
+    for at in (1..all.len()).rev() {
+        all.swap(at, rng.below(at + 1));
+    }
+    all.concat()
+}
+
+/// Lines with one more among them, at each place.
+fn with_one_more<'a>(lines: &[&'a str], more: &'a str) -> Vec<Vec<&'a str>> {
+    (0..=lines.len()).map(|at| [&lines[..at], &[more], &lines[at..]].concat()).collect()
+}
+
+/// The lines in every order.
+pub fn permutations(lines: &str) -> Vec<String> {
+    let mut all = vec![Vec::new()];
+    for line in lines.split_inclusive('\n') {
+        all = all.iter().flat_map(|order| with_one_more(order, line)).collect();
+    }
+    all.iter().map(|order| order.concat()).collect()
+}
+
+/// One of the 32 triples of four countries, which differ in both letters.
+fn one_of_32(rng: &mut Rng, at: usize) -> Profile {
+    let country = [b'A' + (at / 16) as u8, b'A' + (at / 8 % 2) as u8];
+    let volts = [120, 230, 400, 690][at / 2 % 4];
+    let class = class_of(volts).expect("100 to 1000");
+    Profile { country, class, volts, hertz: NOMINAL_HERTZ[at % 2], ..valid(rng) }
+}
+
+/// Lines of 16 of these triples, in any order.
+pub fn different_triples(rng: &mut Rng) -> String {
+    let all: String = (0..32).map(|at| written(&one_of_32(rng, at))).collect();
+    shuffled(rng, &all).split_inclusive('\n').take(16).collect()
+}
+
+/// 16 are stored in descending order; of what comes then, one newer profile is.
+pub fn sixteen_and_more() -> String {
+    SIXTEEN.to_string() + AFTER_SIXTEEN
 }
 
 fn country(at: u8) -> [u8; 2] {
@@ -113,14 +127,15 @@ pub fn named(rng: &mut Rng) -> Vec<(&'static str, Vec<u8>)> {
     let text = |text: &str| text.as_bytes().to_vec();
     // The last line has a greater serial than all before it, so that its last byte changes the listing.
     let mut last_line_ends = exactly(rng, LONGEST_INPUT);
-    let last = format!("\n{}\n", EXAMPLE.lines().next().expect("two"));
+    let last = format!("\n{USUAL}");
     last_line_ends.splice(LONGEST_INPUT - last.len().., text(&last));
-    vec![
-        ("the example", text(EXAMPLE)),
-        ("both kinds", text(BOTH_KINDS)),
+    let mut all: Vec<_> = LISTED.iter().map(|(name, input, _)| (*name, text(input))).collect();
+    all.extend([
         ("both kinds the other way round", text(&reversed(BOTH_KINDS))),
-        ("both hertz", text(BOTH_HERTZ)),
         ("both hertz the other way round", text(&reversed(BOTH_HERTZ))),
+        ("16 profiles in ascending order", text(&reversed(SIXTEEN))),
+        ("16 profiles in any order", text(&shuffled(rng, SIXTEEN))),
+        ("16 profiles in descending order, then others", text(&sixteen_and_more())),
         ("the longest lines, and longer ones", text(&longest())),
         ("nothing", Vec::new()),
         ("no LF", text("GP1,XA,B,12")),
@@ -137,7 +152,7 @@ pub fn named(rng: &mut Rng) -> Vec<(&'static str, Vec<u8>)> {
         ("17 rows of the greatest length", text(&longest_rows(rng, 17))),
         ("a 17th triple that is the other hertz of the first", text(&one_hertz_too_many(rng))),
         ("replaced serials", text(&lines(rng, 200, 2))),
-        ("the same line twice", text(&EXAMPLE.repeat(2))),
+        ("the same lines twice", text(&EXAMPLE.repeat(2))),
         ("the lines the other way round", text(&reversed(EXAMPLE))),
         ("NUL bytes", vec![0; 300]),
         ("NUL bytes between lines", text(&good.replace('\n', "\n\0\n"))),
@@ -149,7 +164,8 @@ pub fn named(rng: &mut Rng) -> Vec<(&'static str, Vec<u8>)> {
         ("just too long", exactly(rng, LONGEST_INPUT + 1)),
         ("much too long", exactly(rng, 3 * LONGEST_INPUT)),
         ("too long without LF", vec![b'x'; LONGEST_INPUT + 1]),
-    ]
+    ]);
+    all
 }
 
 /// Lines of a few countries, some of them damaged.

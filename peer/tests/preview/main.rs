@@ -1,28 +1,18 @@
-//! The preview through C and as a program, beside the independent one. The order of the rows is
-//! open, so listings are compared with their rows sorted.
+//! The preview through C and as a program, beside the independent one, byte for byte.
 
+mod order;
 mod program;
 
 use peer::archive;
 use peer::harness::Tally;
 use peer::preview::cases::{any, longest_rows, named, BOTH_HERTZ, BOTH_KINDS};
-use peer::preview::{in_order, preview, HEADER, LISTING};
+use peer::preview::{preview, HEADER, LISTING};
 use peer::rng::Rng;
-
-/// The proved listing with its rows sorted in place.
-fn sorted(input: &[u8], out: &mut [u8], old: usize) -> (u8, usize) {
-    let (answer, length) = archive::preview(input, out, old);
-    if answer == 0 {
-        let listing = in_order(std::str::from_utf8(&out[..length]).expect("letters and digits"));
-        out[..length].copy_from_slice(listing.as_bytes());
-    }
-    (answer, length)
-}
 
 fn compare(t: &mut Tally, name: &str, input: &[u8], room: usize) -> u8 {
     let old = t.inputs().wrapping_mul(0x9E37_79B9);
     let shown = || format!("{name}: {:?} into {room} bytes", String::from_utf8_lossy(input));
-    t.both(room, |out| sorted(input, out, old), |out| preview(input, out, old), shown)
+    t.both(room, |out| archive::preview(input, out, old), |out| preview(input, out, old), shown)
 }
 
 /// Nothing, the listing's bytes before it had the hertz, and what stands beside the right ones.

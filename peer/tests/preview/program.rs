@@ -1,7 +1,7 @@
 //! The program, fed through a pipe.
 
 use peer::preview::cases::{any, named, LISTED};
-use peer::preview::{in_order, listing};
+use peer::preview::listing;
 use peer::rng::Rng;
 use std::io::{Read, Write};
 use std::process::{ChildStdin, Command, Stdio};
@@ -33,7 +33,7 @@ fn byte_by_byte(mut pipe: ChildStdin, input: Vec<u8>) {
     }
 }
 
-/// What the program prints, its rows sorted, and that it ends well.
+/// What the program prints, and that it ends well.
 fn run(input: &[u8], feed: Feed) -> String {
     let started = Command::new(path()).stdin(Stdio::piped()).stdout(Stdio::piped()).spawn();
     let mut child = started.unwrap_or_else(|error| panic!("{}: {error}", path()));
@@ -43,13 +43,13 @@ fn run(input: &[u8], feed: Feed) -> String {
     child.stdout.take().expect("piped").read_to_string(&mut out).expect("letters and digits");
     feeder.join().expect("fed");
     assert!(child.wait().expect("ended").success());
-    in_order(&out)
+    out
 }
 
 #[test]
 fn the_examples_as_they_stand() {
-    for (input, wanted) in LISTED {
-        assert_eq!(run(input.as_bytes(), at_once), wanted);
+    for (name, input, wanted) in LISTED {
+        assert_eq!(run(input.as_bytes(), at_once), wanted, "{name}");
     }
 }
 

@@ -1,94 +1,56 @@
--- `preview::append_rows` meets its contract: after i turns the rows of the first i slots are written. Assumes nothing.
-use mathlib.Core.Path.{_≡_, refl, _∙_, sym, ap}
-use mathlib.Core.List.{List, _++_}
-use Prim.Native.Nat.{ℕ, _≤_, _-_}
+-- `preview::append_rows` meets its contract: the slots are put in order, and then their rows are written. Assumes
+-- nothing.
+use mathlib.Core.Path.{sym, ap}
 use native.Mathlib.Omega.{arith}
-use Rattle.decimal.specs.Decimal.{Appended}
-use Rattle.decimal.proofs.Stores.{then, appended-as, appended-length, room-as}
-use Rattle.store.specs.Stored.{capacity, profilesIn}
-use Rattle.store.proofs.PlaceLaws.{part-slot}
-use Rattle.preview.specs.Preview.{rows, usedIn}
-use Rattle.preview.proofs.RowLaws.{rowsBefore, rows-more, slot-room, rows-all}
+use lib.Seq.{length-take-le}
+use Rattle.decimal.proofs.Stores.{appended-as, room-as}
+use Rattle.order.proofs.PlacesLaws.{slots-zero, slots-take}
+use Rattle.store.specs.Stored.{capacity}
+use Rattle.preview.specs.Preview.{rows}
 use borrow.Author.Needs.{needs}
 use Rattle.preview.proofs.append_rows.Statement.{statement}
 use Rattle.preview.proofs.append_rows.Tie as tie
 
-abbrev Inv-loop : tie.InvT-loop
-Inv-loop store out₀ at next₀ i₀ out next i =
-    (i ≤ capacity) × Appended out₀ at (rowsBefore store i) out next
+slice-aggregate-order-slots : tie.Need-slice-aggregate-order-slots
+slice-aggregate-order-slots c = search needs
 
-abbrev μ-loop : tie.MeasureT-loop
-μ-loop store out₀ at next₀ i₀ out next i = capacity - i
+order-slots-requires : tie.Need-order-slots-requires
+order-slots-requires c κs =
+    let start = c .before .before .before in
+    (start .pre .0, (search needs, slots-zero capacity))
 
-loop-holds : tie.Need-loop-holds Inv-loop μ-loop
-unfolding rows profilesIn
-loop-holds c = (omega arith, record { place = omega arith; stored = refl })
+array-share-prefix-places : tie.Need-array-share-prefix-places
+array-share-prefix-places c = search needs
 
-mul-start : tie.Need-mul-start Inv-loop μ-loop
-mul-start c = search needs
+slice-aggregate-append-places : tie.Need-slice-aggregate-append-places
+slice-aggregate-append-places c =
+    let ordered = c .before .before .order-slots in
+    sym (length-take-le _ (ordered .last .1 .0) (omega (arith, ordered .ensures .0, ordered .ensures .1 .size)))
 
-add-end : tie.Need-add-end Inv-loop μ-loop
-add-end c = search needs
+append-places-requires : tie.Need-append-places-requires
+append-places-requires c κs =
+    let ordered = c .before .before .before .order-slots in
+    let start = c .before .before .before .before .before .before .before in
+    let listed = ordered .ensures .1 in
+    let slots = slots-take (ordered .result) (ordered .last .1 .0) (listed .slots) in
+    (start .pre .0, (slots, room-as (sym (ap rows (listed .profiles))) (start .pre .1)))
 
-sub-append-slot : tie.Need-sub-append-slot Inv-loop μ-loop
-sub-append-slot c = search needs
+same-length : tie.Need-same-length
+same-length c = search needs
 
-part-append-slot-start : tie.Need-part-append-slot-start Inv-loop μ-loop
-part-append-slot-start c = search needs
-
-part-append-slot-end : tie.Need-part-append-slot-end Inv-loop μ-loop
-part-append-slot-end c = search needs
-
-append-slot-requires : tie.Need-append-slot-requires Inv-loop μ-loop
-append-slot-requires c κs =
-    let turn = c .before .before .before in
-    let start = turn .before .before .before in
-    let i = turn .loop .i in
-    let image = start .args .store .now in
-    let part = ap (λ (bytes : List ℕ). rows (usedIn bytes)) (part-slot i image) in
-    let room = slot-room image i (omega arith) (start .pre .1) (turn .loop .inv .1) in
-    (search needs, room-as (sym part) room)
-
-add-i : tie.Need-add-i Inv-loop μ-loop
-add-i c = search needs
-
-loop-less : tie.Need-loop-less Inv-loop μ-loop
-loop-less c = search needs
-
-loop-again : tie.Need-loop-again Inv-loop μ-loop
-loop-again c =
-    let put = c .before .before .append-slot in
-    let turn = c .before .before .before .before .before .before in
-    let i = turn .loop .i in
-    let image = turn .before .before .before .args .store .now in
-    let slot = ap (λ (bytes : List ℕ). rowsBefore image i ++ rows (usedIn bytes)) (part-slot i image) in
-    let more = slot ∙ rows-more image i (omega arith) in
-    (omega arith, appended-as more (then (turn .loop .inv .1) (put .ensures)))
-
-same-length : tie.Need-same-length Inv-loop μ-loop
-same-length c = appended-length (c .before .loop .inv .1)
-
-returns : tie.Need-returns Inv-loop μ-loop
+returns : tie.Need-returns
 returns c =
-    let turn = c .before in
-    let image = turn .before .before .before .args .store .now in
-    appended-as (rows-all image (turn .loop .i) (omega arith)) (turn .loop .inv .1)
+    let ordered = c .before .before .before .before .before .before .order-slots in
+    appended-as (ap rows (ordered .ensures .1 .profiles)) (c .before .before .append-places .ensures)
 
 pub append-rows-spec : {M : Type 1} → statement M
 append-rows-spec =
     tie.close
     (tie.spec
-    Inv-loop
-    μ-loop
-    loop-holds
-    mul-start
-    add-end
-    sub-append-slot
-    part-append-slot-start
-    part-append-slot-end
-    append-slot-requires
-    add-i
-    loop-less
-    loop-again
+    slice-aggregate-order-slots
+    order-slots-requires
+    array-share-prefix-places
+    slice-aggregate-append-places
+    append-places-requires
     same-length
     returns)

@@ -1,5 +1,5 @@
 -- `preview::preview` meets its contract: a refusal, `too long`, or the header and then the rows. Assumes nothing.
-use mathlib.Core.Path.{subst}
+use mathlib.Core.Path.{sym, subst}
 use mathlib.Core.List.{List}
 use Prim.Native.Nat.{_*_, _≤_}
 use native.Mathlib.Omega.{arith}
@@ -10,11 +10,12 @@ use Rattle.profile.specs.Rules.{classes}
 use Rattle.store.specs.Stored.{capacity, stored}
 use Rattle.store.specs.Reached.{Call, Run, Reached}
 use Rattle.store.proofs.Reached.{zeros-empty}
+use Rattle.order.specs.Order.{inOrder}
 use Rattle.preview.specs.Preview.{cut, callsIn, rows, longestRow}
 use Rattle.preview.proofs.EntryLaws.{
   reached-room,
-  shows-too-long,
-  shows-listed,
+  listing-long,
+  listing-reached,
   previews-refused,
   previews-done,
 }
@@ -43,7 +44,7 @@ returns-2 c =
     let sized = long .before in
     let args = sized .before .before .before .args in
     previews-done classes (args .input .now) (args .out .now) (sized .if1 .left)
-    (shows-too-long classes (args .input .now) (long .if2 .taken)) (text .append-text .ensures)
+    (sym (listing-long classes (args .input .now) (long .if2 .taken))) (text .append-text .ensures)
     (omega (arith, text .append-text .ensures .place))
 
 slice-aggregate-hold-lines : tie.Need-slice-aggregate-hold-lines
@@ -72,7 +73,7 @@ reached : (held : tie.After-hold-lines) → Reached classes (calls held) (held-i
 reached held =
     subst (λ (l : List Profile). Run classes l (calls held) (held-in held)) zeros-empty (held .hold-lines .ensures)
 
-room : (held : tie.After-hold-lines) → length (rows (held-in held)) ≤ longestRow * capacity
+room : (held : tie.After-hold-lines) → length (rows (inOrder (held-in held))) ≤ longestRow * capacity
 room held = reached-room classes (calls held) (held-in held) (reached held)
 
 append-rows-requires : tie.Need-append-rows-requires
@@ -94,10 +95,10 @@ returns-3 c =
     let sized = short-draw .before in
     let args = sized .before .before .before .args in
     let input = args .input .now in
-    let shows = shows-listed classes input (short-draw .if2 .left) (held-in held) (reached held) in
-    let listing = listed .append-rows .ensures in
-    previews-done classes input (args .out .now) (sized .if1 .left) shows (then (headed .append-text2 .ensures) listing)
-    (omega (arith, listing .place, room held, headed .append-text2 .ensures .place))
+    let its = listing-reached classes input (short-draw .if2 .left) (held-in held) (reached held) in
+    let put = listed .append-rows .ensures in
+    previews-done classes input (args .out .now) (sized .if1 .left) its (then (headed .append-text2 .ensures) put)
+    (omega (arith, put .place, room held, headed .append-text2 .ensures .place))
 
 pub preview-spec : {M : Type 1} → statement M
 preview-spec =

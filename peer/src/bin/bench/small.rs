@@ -1,7 +1,6 @@
 //! Rows of the small entries: SHAKE, samples, packing, lines.
 
 use crate::measure::least;
-use crate::scheme::LINE;
 use crate::stacks::Stacks;
 use crate::table::{print, Row};
 use peer::archive::{self, Category};
@@ -12,7 +11,7 @@ use peer::harness::Function;
 use peer::keccak::{SHAKE128_RATE, SHAKE256_RATE};
 use peer::line::{image, read_line, write_line, Profile, Rate, IMAGE, LONGEST};
 use peer::openssl::{self, Shake};
-use peer::preview::cases::EXAMPLE;
+use peer::preview::cases::USUAL;
 use peer::rng::Rng;
 use peer::sizes::{Sizes, CATEGORY_1, CATEGORY_3, CATEGORY_5};
 use std::ffi::CStr;
@@ -189,7 +188,7 @@ const WRITE: Pair = (
 
 /// The usual line of each kind, read and written, for many countries.
 pub fn lines(stacks: &Stacks) {
-    let usual = read_line(&EXAMPLE.as_bytes()[..LINE]).expect("a line");
+    let usual = read_line(USUAL.as_bytes()).expect("a line");
     let country = |at: usize| [b'A' + (at / 26) as u8, b'A' + (at % 26) as u8];
     let (line, image) = (|p: &Profile| write_line(p).expect("valid"), |p: &Profile| image(p).to_vec());
     let entries = [(line as fn(&Profile) -> Vec<u8>, IMAGE, READ), (image, LONGEST, WRITE)];

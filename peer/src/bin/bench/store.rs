@@ -6,7 +6,7 @@ use crate::stacks::Stacks;
 use crate::table::{print, Row};
 use peer::archive::{self, Category};
 use peer::line::{class_of, image, read_line, Profile, LONGEST};
-use peer::preview::cases::EXAMPLE;
+use peer::preview::cases::USUAL;
 use peer::rng::Rng;
 use peer::store::{self, Device, Measured, CAPACITY, STORE};
 use std::array::from_fn;
@@ -37,7 +37,7 @@ fn make_by_plain(at: &Signed, package: &mut [u8]) -> (u8, usize) {
 impl Packaged {
     /// Both programs make the same package.
     fn draw(category: &'static Category, rng: &mut Rng) -> Packaged {
-        let signed = Signed::draw(category, rng, &EXAMPLE.as_bytes()[..LINE]);
+        let signed = Signed::draw(category, rng, USUAL.as_bytes());
         let package = [&signed.signature[..], &signed.message].concat();
         for make in [make_by_library, make_by_plain] as [Make; 2] {
             let mut out = vec![0; longest(category)];
@@ -85,7 +85,7 @@ fn finding(
 }
 
 fn usual() -> Profile {
-    read_line(&EXAMPLE.as_bytes()[..LINE]).expect("a line")
+    read_line(USUAL.as_bytes()).expect("a line")
 }
 
 /// One profile of each of 16 countries.

@@ -6,7 +6,7 @@ use peer::entries;
 use peer::line::cases::{any_image, by_length, fields, joined, some_rate, texts, valid};
 use peer::line::{image as image_of, write_line as written, Profile, IMAGE, LONGEST, RATE, SHORTEST};
 use peer::preview::cases::any;
-use peer::preview::{in_order, preview as plain_preview, LISTING};
+use peer::preview::{preview as plain_preview, LISTING};
 use peer::rng::Rng;
 
 /// A valid profile. One of eight is chosen by the length of its line: the shortest of its kind, the longest, or any.
@@ -108,14 +108,7 @@ pub fn image(rng: &mut Rng) -> [u8; IMAGE] {
 pub fn write_line(t: &mut Turn) -> u8 {
     let image = image(&mut t.rng);
     let (image, room) = (resized(&mut t.rng, &image, 15), size(&mut t.rng, LONGEST, 15));
-    t.length(c::gridprofile_write_line, entries::write_line, |_| (), &image, room)
-}
-
-/// The order of a listing's rows is open.
-fn sort(listing: &mut [u8]) {
-    let sorted = in_order(&String::from_utf8_lossy(listing));
-    assert_eq!(sorted.len(), listing.len(), "a listing of letters and digits");
-    listing.copy_from_slice(sorted.as_bytes());
+    t.length(c::gridprofile_write_line, entries::write_line, &image, room)
 }
 
 /// One of two is refused for its room; one of 1,000 is about as long as an input may be. One of four begins with any
@@ -130,5 +123,5 @@ pub fn preview(t: &mut Turn) -> u8 {
         input = input.iter().chain(b"\n").copied().cycle().take(len).collect();
     }
     let room = size(&mut t.rng, LISTING, 8);
-    t.length(c::gridprofile_preview, plain_preview, sort, &input, room)
+    t.length(c::gridprofile_preview, plain_preview, &input, room)
 }

@@ -100,9 +100,8 @@ impl<'a> Turn<'a> {
         answer
     }
 
-    /// An entry that writes at the front of a buffer of `room` bytes and gives the length. What it
-    /// wrote is compared after `settle`, where its order is open.
-    pub fn length(&mut self, proved: LengthInC, plain: Length, settle: fn(&mut [u8]), input: &[u8], room: usize) -> u8 {
+    /// An entry that writes at the front of a buffer of `room` bytes and gives the length.
+    pub fn length(&mut self, proved: LengthInC, plain: Length, input: &[u8], room: usize) -> u8 {
         let mut expected = self.rng.bytes(room);
         let (lent, mut out, mut length) = (self.lend(input), self.lend(&expected), self.lend_length());
         let (from, to) = (lent.pointer(), out.pointer_mut());
@@ -111,9 +110,7 @@ impl<'a> Turn<'a> {
         let due = plain(input, &mut expected, length.held);
         assert_eq!((answer, length.value()), due, "answer and length on {} into {room} bytes", shown(input));
         lent.demand_unchanged();
-        let mut content = out.content().to_vec();
-        settle(&mut content[..if answer == 0 { length.value() } else { 0 }]);
-        assert!(content == expected, "bytes lent, on {}: {}", shown(input), shown(&content));
+        out.demand(&expected);
         answer
     }
 }

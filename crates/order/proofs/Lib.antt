@@ -1,0 +1,4 @@
+pub mod OrderLaws
+pub mod ColumnLaws
+pub mod Theorems
+pub mod PlacesLaws
