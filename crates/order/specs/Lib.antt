@@ -1,3 +1,3 @@
 pub mod Order
 pub mod Theorems
-pub mod Places
+pub mod InnerPlaces

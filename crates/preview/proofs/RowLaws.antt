@@ -27,7 +27,7 @@ use Rattle.profile.specs.Rules.{
 }
 use Rattle.profile.specs.Line.{comma, lineFeed}
 use Rattle.profile.proofs.RuleLaws.{and-first, parts, valid-hertz, most, range-bounds}
-use Rattle.order.specs.Places.{profileIn, profilesAt}
+use Rattle.order.specs.InnerPlaces.{profileIn, profilesAt}
 use Rattle.preview.specs.Preview.{keyBytes, row, rows, longestRow, RowsFit}
 
 -- ---- bytes copied into a part

@@ -110,12 +110,13 @@ RowsFit table = (ps : List Profile) → AllValid table ps → length (rows ps) �
 unfoldable pub listing : List Class → List ℕ → List ℕ
 listing table input = pick (ltb longestInput (length input)) tooLong (header ++ rows (inOrder (shown table input)))
 
--- The rows are those of the stored profiles, each once, each before all later ones; and inputs that store the same
--- profiles, in whatever order their lines come, have the same listing (the proofs stand in proofs/EntryLaws.antt).
+-- the rows are those of the stored profiles, each once and each before all later ones (the proofs of this and of the
+-- next stand in proofs/EntryLaws.antt)
 abbrev pub RowsAscend : List Class → Type 0
 RowsAscend table =
     (input : List ℕ) → Perm (inOrder (shown table input)) (shown table input) × Ascending (inOrder (shown table input))
 
+-- the same paper: inputs that store the same profiles, in whatever order their lines come, have the same listing
 abbrev pub SameListing : List Class → Type 0
 SameListing table =
     (a b : List ℕ) → length a ≤ longestInput → length b ≤ longestInput → Perm (shown table a) (shown table b)
@@ -135,8 +136,8 @@ abbrev pub previewAnswer : Previewed → Result ℕ
 previewAnswer (Length n) = done n
 previewAnswer BadSize = refused bad-size
 
--- The answer is the length of the listing, which stands at the front of the lent bytes, and past it what they held; after
--- a refusal all is as it was.
+-- The answer is the length of the listing, which stands at the front of the lent bytes. Past it they are as they were,
+-- and after a refusal all of them are.
 pub record Previews (table : List Class) (input old : List ℕ) (r : Previewed) (lent : List ℕ) : Type 0 where
   pub answered : previewAnswer r ≡ answer (previewChecks old) (length (listing table input))
   pub content : lent

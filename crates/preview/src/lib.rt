@@ -22,7 +22,7 @@ ghost use Rattle.profile.specs.Line.{readLine};
 ghost use Rattle.store.specs.Stored.{storeSize, stored};
 ghost use Rattle.store.specs.Reached.{Run};
 ghost use Rattle.order.specs.Order.{inOrder};
-ghost use Rattle.order.specs.Places.{profilesAt, AreSlots};
+ghost use Rattle.order.specs.InnerPlaces.{profilesAt, AreSlots};
 ghost use Rattle.preview.specs.Preview.{cut, callsOf, callsIn, keyBytes, row, rows, LineAt, Previews, PreviewsTo};
 
 // How many bytes are lent for the listing: the header and a row for each slot have room.

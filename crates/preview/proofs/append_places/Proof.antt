@@ -7,7 +7,7 @@ use native.Mathlib.Omega.{arith}
 use lib.ListN.{length, getD}
 use Rattle.decimal.specs.Decimal.{Appended}
 use Rattle.decimal.proofs.Stores.{then, appended-as, appended-length, room-as}
-use Rattle.order.specs.Places.{profileIn}
+use Rattle.order.specs.InnerPlaces.{profileIn}
 use Rattle.order.proofs.PlacesLaws.{slot-fits}
 use Rattle.preview.specs.Preview.{row, rows}
 use Rattle.preview.proofs.RowLaws.{rowsBefore, rows-more, row-room, rows-all}
