@@ -1,11 +1,11 @@
 -- A run of stores, cut in two. Assumes nothing.
 use mathlib.Core.Path.{_≡_, refl, _∙_, sym, ap, subst}
-use mathlib.Core.List.{List, [], _∷_, _++_}
-use Prim.Native.Nat.{ℕ, suc, _+_, _≤_, _<_}
+use mathlib.Core.List.{List, [], _∷_, _++_, append-assoc}
+use Prim.Native.Nat.{ℕ, suc, _+_, _-_, _≤_, _<_}
 use native.Mathlib.Nat.{add-zero, zero-add, add-suc, suc-add}
 use native.Mathlib.Omega.{arith}
 use lib.ListN.{length, set, take, drop, length-append}
-use lib.Seq.{sets, sets-eq, length-sets, set-comm, take-at}
+use lib.Seq.{sets, sets-eq, length-sets, set-comm, take-at, drop-drop}
 use Rattle.decimal.specs.Decimal.{Room, Appended}
 
 module _ {A : Type 0} where
@@ -37,6 +37,20 @@ then {l} {m} {n} {xs} {ys} {i} {j} {k} a b =
     record {
       place = omega (arith, a .place, b .place, length-append xs ys);
       stored = b .stored ∙ rw (a .place, a .stored) (sym (sets-append l i xs ys));
+    }
+
+-- bytes copied into a part of the buffer
+pub put-part : (l m ys : List ℕ) (at end : ℕ) → m ≡ ys → end ≡ at + length ys → end ≤ length l
+    → Appended l at ys (take at l ++ (m ++ drop (end - at) (drop at l))) end
+put-part l m ys at end same place room =
+    let behind : at + (end - at) ≡ at + length ys = omega arith in
+    record {
+      place = place;
+      stored =
+          ap (λ (t : List ℕ). take at l ++ (t ++ drop (end - at) (drop at l))) same
+          ∙ ap (λ (t : List ℕ). take at l ++ (ys ++ t)) (drop-drop (end - at) at l ∙ ap (λ (k : ℕ). drop k l) behind)
+          ∙ sym (append-assoc (take at l) ys (drop (at + length ys) l))
+          ∙ sym (sets-eq ys l at (omega arith));
     }
 
 pub appended-as : {l m xs ys : List ℕ} {i j : ℕ} → xs ≡ ys → Appended l i xs m j → Appended l i ys m j

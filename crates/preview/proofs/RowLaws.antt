@@ -2,12 +2,12 @@
 use mathlib.Core.Path.{_≡_, refl, _∙_, sym, ap}
 use mathlib.Core.Bool.{true}
 use mathlib.Core.List.{List, [], _∷_, _++_, append-assoc, append-nil, map-append}
-use Prim.Native.Nat.{ℕ, _+_, _-_, _≤_, _<_}
+use Prim.Native.Nat.{ℕ, _+_, _≤_, _<_}
 use native.Mathlib.Numerals.{add-one}
 use native.Mathlib.Omega.{arith}
 use lib.Dec.{T}
 use lib.ListN.{length, getD, set, take, drop, take-append-drop, length-append}
-use lib.Seq.{sets-eq, take-suc, take-all, drop-drop}
+use lib.Seq.{take-suc, take-all}
 use Rattle.decimal.specs.Decimal.{decimal, lastDigits, Room, Appended}
 use Rattle.decimal.proofs.Stores.{sets-front, one-byte, then, room-as, room-first, room-after}
 use Rattle.profile.specs.declared.Profile.{Profile}
@@ -30,20 +30,7 @@ use Rattle.profile.proofs.RuleLaws.{and-first, parts, valid-hertz, most, range-
 use Rattle.order.specs.InnerPlaces.{profileIn, profilesAt}
 use Rattle.preview.specs.Preview.{keyBytes, row, rows, longestRow, RowsFit}
 
--- ---- bytes copied into a part
-
-pub put-part : (l m ys : List ℕ) (at end : ℕ) → m ≡ ys → end ≡ at + length ys → end ≤ length l
-    → Appended l at ys (take at l ++ (m ++ drop (end - at) (drop at l))) end
-put-part l m ys at end same place room =
-    let behind : at + (end - at) ≡ at + length ys = omega arith in
-    record {
-      place = place;
-      stored =
-          ap (λ (t : List ℕ). take at l ++ (t ++ drop (end - at) (drop at l))) same
-          ∙ ap (λ (t : List ℕ). take at l ++ (ys ++ t)) (drop-drop (end - at) at l ∙ ap (λ (k : ℕ). drop k l) behind)
-          ∙ sym (append-assoc (take at l) ys (drop (at + length ys) l))
-          ∙ sym (sets-eq ys l at (omega arith));
-    }
+-- ---- bytes copied to the front
 
 pub put-front : (l m ys : List ℕ) → m ≡ ys → length ys ≤ length l
     → Appended l 0 ys (m ++ drop (length ys) l) (length ys)

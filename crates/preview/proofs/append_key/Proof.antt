@@ -5,8 +5,8 @@ use Prim.Native.Nat.{ℕ, _+_, _-_}
 use native.Mathlib.Omega.{arith}
 use lib.ListN.{take, drop}
 use Rattle.decimal.specs.Decimal.{Appended}
-use Rattle.decimal.proofs.Stores.{appended-length}
-use Rattle.preview.proofs.RowLaws.{put-part, letters, key-length, key-put}
+use Rattle.decimal.proofs.Stores.{appended-length, put-part}
+use Rattle.preview.proofs.RowLaws.{letters, key-length, key-put}
 use borrow.Author.Needs.{needs}
 use Rattle.preview.proofs.append_key.Statement.{statement}
 use Rattle.preview.proofs.append_key.Tie as tie
