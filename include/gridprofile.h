@@ -39,6 +39,8 @@ extern "C" {
 #define GRIDPROFILE_STORE_FULL 8      /* no room for another country, class and hertz */
 #define GRIDPROFILE_NOT_STORED 9      /* nothing stored under this country, class and hertz */
 #define GRIDPROFILE_BAD_DEVICE 10     /* a device country, class or hertz that does not exist */
+#define GRIDPROFILE_BAD_FORMULA 11    /* a limit of a line to evaluate is no formula */
+#define GRIDPROFILE_BAD_STEP 12       /* a formula divides by 0, or a result leaves its bounds */
 
 /* Numbers of category 1. */
 #define GRIDPROFILE_PLACES 127           /* places of a vector */
@@ -60,6 +62,7 @@ extern "C" {
 /* Lines and the images of profiles, in bytes. */
 #define GRIDPROFILE_LINE_MIN_BYTES 42
 #define GRIDPROFILE_LINE_MAX_BYTES 84
+#define GRIDPROFILE_FORMULA_LINE_MAX_BYTES 400 /* of a line whose limits are formulas */
 #define GRIDPROFILE_PROFILE_IMAGE_BYTES 76
 
 /* Where the fields of a profile's image begin. Used, country and class are bytes; a number has
@@ -256,6 +259,24 @@ uint8_t gridprofile_read_line(const uint8_t *line, size_t line_len, uint8_t *pro
  * Stack: 320 bytes. */
 uint8_t gridprofile_write_line(const uint8_t *profile, size_t profile_len, uint8_t *line,
                                size_t line_len, size_t *length);
+
+/* Evaluates a line whose trip limits are written as formulas: writes the profile line with every
+ * limit as a plain number at the front of GRIDPROFILE_LINE_MAX_BYTES lent bytes, and its length to
+ * *length; bytes past it are not touched. gridprofile_read_line takes what is written. The limits
+ * are the fields 7, 9, 11 and 13, and 15 too in a line that begins with GP2; all other fields stand
+ * as in a profile line. A line that is a profile line already is evaluated to itself. A formula is
+ * made of numbers 0 to 1000000, N (the line's own nominal volts), + - * / and parentheses, without
+ * spaces: at most 64 characters, and at most 8 pairs of parentheses around each other. * and / bind
+ * before + and -, equals go from left to right, and / drops the remainder towards zero. A minus in
+ * front stands only before a plain number. Refuses, in this order, with 1 where the input has more
+ * than GRIDPROFILE_FORMULA_LINE_MAX_BYTES (it has no least length) or line_len is another; with 5
+ * where the first line feed of the input is not its last byte or, with the limits left aside, it is
+ * no profile line; then, limit after limit from the left, with 11 where one is no formula, or with
+ * 12 where a divisor in it is 0 or the result of an operation is outside -2000000000 to 2000000000;
+ * last with 5 where the number of a limit is outside its range. *length is then as it was.
+ * Stack: 5376 bytes. */
+uint8_t gridprofile_evaluate_line(const uint8_t *input, size_t input_len, uint8_t *line,
+                                  size_t line_len, size_t *length);
 
 /* Lists what a device would hold after the lines of an input: the input is cut after each line feed,
  * each line is stored as if it were signed and the device set to that line's own country, class and

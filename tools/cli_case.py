@@ -3,6 +3,7 @@
 import hashlib
 import os
 import shutil
+import struct
 import subprocess
 import tempfile
 import typing
@@ -96,6 +97,17 @@ RIVALS = {size: KINDS[size].removesuffix(", or a profile line") for size in (48,
 made = {}
 
 
+def example(name):
+    """What an example file holds."""
+    with open(os.path.join(ROOT, "examples", name), "rb") as file:
+        return file.read()
+
+
+def formats():
+    with open(os.path.join(ROOT, "docs/FORMATS.md"), encoding="utf-8") as file:
+        return file.read()
+
+
 def line_of(country="XA", letter="B", hertz=50, serial=12, rate=None, volts=None):
     """A line; with a rate point where there is a rate, and usual volts of the class where none are told."""
     volts = volts or {"A": 120, "B": 230, "C": 400, "D": 690}[letter]
@@ -137,21 +149,27 @@ def fingerprint(key, category=FIRST):
 
 
 # What each refusal says, and what it tells to do.
-REFUSALS = {1: ("size", "gridprofile help|--category|new-store"),
+REFUSALS = {1: ("size", "gridprofile help|--category|new-store|gridprofile evaluate"),
             2: ("draw from the seeds is short", "make another key"),
             3: ("out of range", "fetch (both|it) again"), 4: ("signature does not hold", "do not use this package"),
-            5: ("breaks a ", "correct the line|take a copy"),
+            5: ("breaks a ", "correct the line|take a copy|gridprofile evaluate"),
             6: ("for another country, class or hertz", "which device .* hertz alone"),
             7: ("is not greater than", "greater serial|nothing can"),
             8: ("16 profiles are stored, none of them for this country, class and hertz", "another store"),
             9: ("nothing is stored for this country, class and hertz", "load a package .* other hertz"),
-            10: ("is not two letters .* or the hertz not 50 or 60", r"as in: XA B 50\.")}
+            10: ("is not two letters .* or the hertz not 50 or 60", r"as in: XA B 50\."),
+            11: ("a limit is no formula", "correct the formula; `gridprofile help evaluate`"),
+            12: ("divides by 0, or a result", "correct the formula; `gridprofile help evaluate`")}
 # The same of `nearest`, which is asked for no class.
 NEAREST_REFUSALS = {**REFUSALS,
                     9: (r"no stored profile of [A-Z]{2} and [56]0 Hz is within 40 V of the measured \d+ V",
                         "`gridprofile show STORE` lists what is stored"),
                     10: ("(the country is not two letters A to Z|the hertz are not 50 or 60|"
                          "the volts are not a whole number 0 to 2000)", r"0 to 2000, as in: XA 50 230\.")}
+# The same of `evaluate`, which takes any file for a sheet of lines.
+EVALUATE_REFUSALS = {**REFUSALS, 1: ("(a line is too long|the sheet has more than 65536 bytes)", "sheet"),
+                     5: ("breaks a ", "correct the line; `gridprofile help line` and `gridprofile help evaluate`")}
+OWN_REFUSALS = {"nearest": NEAREST_REFUSALS, "evaluate": EVALUATE_REFUSALS}
 
 # The seeds are named so that a seed is a file which only its owner can read; a category's number may stand behind.
 SECRET_NAMES = ("private", "master")
@@ -209,7 +227,7 @@ class Case(unittest.TestCase):
         ran = self.run_in(*words, **options)
         said = ran.stderr.decode()
         self.assertEqual(ran.returncode, number, (words, said))
-        meaning, advice = (NEAREST_REFUSALS if words[0] == "nearest" else REFUSALS)[number]
+        meaning, advice = OWN_REFUSALS.get(words[0], REFUSALS)[number]
         self.assertRegex(said, rf"refused with {number}: .*{meaning}.*\n(  .*\n)*  What to do: .*({advice})")
         self.assertEqual(ran.stdout, b"")
         self.assertEqual(self.look(), before, words)
@@ -263,3 +281,70 @@ class Case(unittest.TestCase):
         for line in lines:
             self.done("load", name, "key", self.package(line), *device_of(line))
         return name
+
+
+# Reads lines, each behind its length, and prints for each what the library answers, and then what is said of it. A line
+# ends where memory does, so that a byte read past it ends the program.
+EXPLAIN_ALL = """
+#include "program.h"
+#include <sys/mman.h>
+int main(void)
+{
+    uint8_t out[GRIDPROFILE_LINE_MAX_BYTES], *line;
+    uint32_t length;
+    size_t used = 0;
+    uint8_t *room = mmap(NULL, 65536 + 4096, PROT_READ | PROT_WRITE, MAP_PRIVATE | MAP_ANONYMOUS, -1, 0);
+    if (room == MAP_FAILED || mprotect(room + 65536, 4096, PROT_NONE) != 0)
+        return 1;
+    while (fread(&length, sizeof length, 1, stdin) == 1) {
+        line = room + 65536 - length;
+        if (fread(line, 1, length, stdin) != length)
+            return 1;
+        int answer = ANSWER;
+        printf("%d\\n", answer);
+        if (answer != 0)
+            EXPLAIN;
+        else if (used > 0)
+            printf("  %.*s", (int)used, (char *)out);
+    }
+    return 0;
+}
+"""
+
+
+class Explained(Case):
+    """Lines by the thousand, with the program's own files that say what is wrong with them."""
+
+    PARTS = ("explain.c", "kinds.c", "categories.c")
+    ANSWER = "gridprofile_read_line(line, length, out, GRIDPROFILE_PROFILE_IMAGE_BYTES)"
+    EXPLAIN = "explain_line(stdout, line, length)"
+
+    @classmethod
+    def setUpClass(cls):
+        """Compiled once, with traps for what C leaves undefined."""
+        cls.built = tempfile.mkdtemp(prefix="gridprofile-test-")
+        cls.addClassCleanup(shutil.rmtree, cls.built)
+        source, cls.program = os.path.join(cls.built, "all.c"), os.path.join(cls.built, "all")
+        with open(source, "w", encoding="ascii") as file:
+            file.write(EXPLAIN_ALL.replace("ANSWER", cls.ANSWER).replace("EXPLAIN", cls.EXPLAIN))
+        folder = os.path.join(ROOT, "tools/gridprofile")
+        parts = [os.path.join(folder, name) for name in cls.PARTS]
+        subprocess.run(["gcc", "-std=c11", "-O1", "-Wall", "-Wextra", "-Werror", "-fsanitize=undefined",
+                        "-fsanitize-undefined-trap-on-error", "-I", os.path.join(ROOT, "include"), "-I", folder, source,
+                        *parts, ARCHIVE, "-o", cls.program], check=True)
+
+    def explained(self, lines):
+        """For each line what the library answers, and what is said of it, line by line without the indent; with an
+        answer of 0, what the library wrote."""
+        records = b"".join(struct.pack("<I", len(line)) + line for line in lines)
+        ran = subprocess.run([self.program], input=records, stdout=subprocess.PIPE, timeout=60, check=False)
+        self.assertEqual(ran.returncode, 0)
+        self.assertRegex(ran.stdout, rb"\A[ -~\n]*\Z")
+        results = []
+        for said in ran.stdout.decode().splitlines():
+            if said.startswith("  "):
+                results[-1][1].append(said[2:])
+            else:
+                results.append((int(said), []))
+        self.assertEqual(len(results), len(lines))
+        return results

@@ -18,9 +18,11 @@ from cli_case import (ARCHIVE, BAD_LINE, CATEGORIES, DAMAGED_STORE, DEVICE, DEVI
                       FILE_TROUBLE, FIRST, GIVEN, IMAGE, KINDS, LEAST_LINE, LINE, LINE_60, LINE_C, LONGEST,
                       LONGEST_RATE, MASTER, MEASURED, MOST_LINE, NO_RANDOM_BYTES, PREVIEW, PRIVATE, PROFILE, PROGRAM,
                       RATE_LINE, ROOT, SALT, SELF_CHECK_FAILED, SHORTEST, SHORTEST_RATE, SIGNATURE, STORE, THIRD,
-                      WRONG_USAGE, Case, device_of, fingerprint, line_of, listing_of, rows_of, sealed, shake)
+                      WRONG_USAGE, Case, device_of, example, fingerprint, formats, line_of, listing_of, rows_of, sealed,
+                      shake)
 import test_cli_categories  # noqa: E402
 import test_cli_files  # noqa: E402
+import test_cli_formulas  # noqa: E402
 import test_cli_lines  # noqa: E402
 import test_cli_safe  # noqa: E402
 
@@ -1179,7 +1181,7 @@ class Preview(Case):
 
 class Usage(Case):
     COUNTS = {"new-key": (2, 2), "key": (2, 2), "sign": (3, 3), "verify": (2, 2), "new-store": (1, 1), "load": (6, 6),
-              "lookup": (4, 4), "nearest": (4, 4), "show": (1, 1), "preview": (0, 1)}
+              "lookup": (4, 4), "nearest": (4, 4), "show": (1, 1), "preview": (0, 1), "evaluate": (0, 1)}
 
     def test_help(self):
         shown = self.done("help").decode()
@@ -1187,13 +1189,14 @@ class Usage(Case):
             self.assertEqual(self.done(*words).decode(), shown)
         for name in self.COUNTS:
             self.assertRegex(shown, rf"(?m)^  {name} ")
-        for number in range(1, 11):
+        for number in range(1, 13):
             self.assertRegex(shown, rf"(?m)^  {number:2}  \w")
         for number in (WRONG_USAGE, DAMAGED_STORE, SELF_CHECK_FAILED, NO_RANDOM_BYTES, FILE_TROUBLE):
             self.assertRegex(shown, rf"[;:]\s{number} ")
         self.assertIn("\nCOUNTRY is two letters A to Z, CLASS one letter A to D, HERTZ 50 or 60, VOLTS 0 to 2000.\n",
                       shown)
         self.assertIn("\nFor nearest, 9 is that no profile of COUNTRY and HERTZ is within 40 volts; 10 is ", shown)
+        self.assertIn("\nFor evaluate, 1 is a line of more than 400 bytes, or a sheet of more than 65536.\n", shown)
 
     def test_help_of_a_command(self):
         for name in self.COUNTS:
@@ -1276,6 +1279,7 @@ class Usage(Case):
                       ["load", "store", "key", "package", "XA", "B", "-50"], ["lookup", "store", "XA", "B", "-50"],
                       ["nearest", "store", "XA", "50", "-1"], ["nearest", "store", *MEASURED, "--force"],
                       ["verify", "key", "package", "--wait", "1"],
+                      ["evaluate", "line", "--force"], ["evaluate", "-x"], ["evaluate", "line", "--wait", "1"],
                       ["sign", "private", "line", "out", "--key"], ["sign", "private", "line", "out", "-x"],
                       ["sign", "private", "line", "out", "--key", "key", "--key", "key"]):
             self.wrong(*words)
@@ -1330,9 +1334,9 @@ def readme_blocks():
 
 
 def readme_shown():
-    """What `show` prints of a line, as it stands there."""
+    """What commands print, as it stands there: `show` of a line, and `evaluate`."""
     with open(os.path.join(ROOT, "README.md"), encoding="utf-8") as file:
-        return re.search(r"\n```\n((?:.+\n)+)```\n", file.read()).group(1).encode()
+        return [shown.encode() for shown in re.findall(r"\n```\n((?:.+\n)+)```\n", file.read())]
 
 
 class Readme(Case):
@@ -1351,7 +1355,8 @@ class Readme(Case):
                              check=False, env={**os.environ, "TMPDIR": self.folder,
                                                "PATH": self.path("bin") + ":" + os.environ["PATH"]})
         self.assertEqual((ran.returncode, ran.stderr), (0, b""), ran.stdout)
-        for told in (b"\nDone: ", b"\n" + LINE, b"load answers 0\n", readme_shown(),
+        self.assertEqual(len(readme_shown()), 2)
+        for told in (b"\nDone: ", b"\n" + LINE, b"load answers 0\n", *readme_shown(),
                      b"\n" + LINE + b"Class B, 230 V nominal: 7 V below the measured 237 V.\n"):
             self.assertIn(told, ran.stdout)
 
@@ -1369,11 +1374,6 @@ class Readme(Case):
         with open(os.path.join(ROOT, "README.md"), encoding="utf-8") as file:
             row = re.search(r"^\| `preview .*\| lists, (in the order of .+), what ", file.read(), re.M)
         self.assertIn(f" {row.group(1)}.", self.done("help", "preview").decode())
-
-
-def formats():
-    with open(os.path.join(ROOT, "docs/FORMATS.md"), encoding="utf-8") as file:
-        return file.read()
 
 
 def shortened(data):
@@ -1564,6 +1564,10 @@ class Demo(Case):
                       b"exit status 6\n", b"A store with 2 of 16 profiles.\n", RATE_WORDS.encode(), WORDS_60.encode(),
                       b" XA B 50\n" + RATE_LINE, b" XA B 60\n" + LINE_60,
                       b"\n$ gridprofile nearest store XA 50 237\n" + suggestion(RATE_LINE, 237),
+                      b"\n$ gridprofile evaluate xa.sheet\n" + example("xa.lines"), b"It replaces serial 13.\n",
+                      b"\n$ gridprofile evaluate wrong.sheet\ngridprofile evaluate: refused with 11: ",
+                      b'; the first is line 2:\n  field 7, over-voltage, is "N*1.1*1000/N", with a decimal point',
+                      b"exit status 11\n",
                       b"\n$ gridprofile verify key.5 xa-b.5.package --category 5\nThe signature holds", b"\nDone: "):
             self.assertIn(words, ran.stdout)
         self.assertEqual(self.names(), [])
@@ -1591,7 +1595,8 @@ class Result(unittest.TestResult):
 def main():
     load = unittest.defaultTestLoader.loadTestsFromModule
     result = Result()
-    modules = (sys.modules[__name__], test_cli_categories, test_cli_files, test_cli_lines, test_cli_safe)
+    modules = (sys.modules[__name__], test_cli_categories, test_cli_files, test_cli_formulas, test_cli_lines,
+               test_cli_safe)
     unittest.TestSuite([load(module) for module in modules]).run(result)
     bad = len(result.failures) + len(result.errors)
     print(f"program: {result.testsRun - bad} ok, {bad} failed")

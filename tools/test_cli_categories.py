@@ -452,7 +452,7 @@ class Option(Case):
     TAKES = {"new-key": ["fresh", "fresh.key"], "key": ["private", "out"], "sign": ["private", "line", "out"],
              "verify": ["key", "package"], "load": ["store", "key", "package", *DEVICE]}
     OTHERS = {"new-store": ["fresh"], "lookup": ["store", *DEVICE], "nearest": ["store", *MEASURED], "show": ["key"],
-              "preview": ["line"]}
+              "preview": ["line"], "evaluate": ["line"]}
 
     def wrong(self, what, *words):
         said = self.troubled(WRONG_USAGE, *words).splitlines()

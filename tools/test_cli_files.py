@@ -76,7 +76,7 @@ class Streams(Case):
         with open("/dev/full", "wb") as full:
             for words in (["key", "private", "-"], SIGN, ["new-store", "-"], ["lookup", "store", *DEVICE],
                           ["nearest", "store", *MEASURED], ["show", "package"], ["preview", lines],
-                          ["verify", "key", "package"],
+                          ["evaluate", lines], ["verify", "key", "package"],
                           ["load", "-", "key", "package", *DEVICE], ["help"], ["--version"], ["help", "sign"]):
                 self.troubled(FILE_TROUBLE, *words, stdin=EMPTY, stdout=full)
 
@@ -106,9 +106,10 @@ class Streams(Case):
 
     def test_refusal_whose_output_cannot_be_written(self):
         """The refusal says more."""
-        self.put("bad", bytes(STORE))
+        self.put("bad", bytes(STORE)), self.put("lines", LINE + LINE.replace(b",800,", b",8-,"))
         with open("/dev/full", "wb") as full:
             self.assertEqual(self.run_in("show", "bad", stdout=full).returncode, DAMAGED_STORE)
+            self.assertEqual(self.run_in("evaluate", "lines", stdout=full).returncode, 11)
 
     def test_report_that_cannot_be_written(self):
         """The file is what was asked for, and it is written."""
@@ -124,7 +125,7 @@ class Streams(Case):
 
     def test_reader_that_goes_away(self):
         self.key(), self.package(), self.store(LINE)
-        for words in (SIGN, ["show", "package"], ["nearest", "store", *MEASURED]):
+        for words in (SIGN, ["show", "package"], ["nearest", "store", *MEASURED], ["evaluate", "line"]):
             reading, writing = os.pipe()
             os.close(reading)
             with os.fdopen(writing, "wb") as gone:
@@ -133,7 +134,8 @@ class Streams(Case):
     def test_closed_streams_are_not_taken_for_files(self):
         self.key(), self.package(), self.store()
         for stream, words in ((0, ["key", "-", "out"]), (0, ["nearest", "-", *MEASURED]), (1, ["key", "private", "-"]),
-                              (1, ["show", "package"]), (1, ["nearest", self.store(LINE, name="held"), *MEASURED])):
+                              (1, ["show", "package"]), (1, ["nearest", self.store(LINE, name="held"), *MEASURED]),
+                              (0, ["evaluate"]), (0, ["evaluate", "-"]), (1, ["evaluate", "line"])):
             self.troubled(FILE_TROUBLE, *words, stdin=None, preexec_fn=lambda at=stream: os.close(at))
         said = self.troubled(FILE_TROUBLE, "load", "store", "key", "-", *DEVICE, stdin=None,
                              preexec_fn=lambda: os.close(0))
@@ -156,7 +158,7 @@ class Inputs(Case):
         self.package(), self.store()
         whole = (["key", "private", "-"], SIGN, ["verify", "key", "package"],
                  ["load", "store", "key", "package", *DEVICE], ["lookup", "store", *DEVICE],
-                 ["nearest", "store", *MEASURED], ["show", "package"], ["preview", "line"])
+                 ["nearest", "store", *MEASURED], ["show", "package"], ["preview", "line"], ["evaluate", "line"])
         for words in whole:
             for at, word in enumerate(words[1:], 1):
                 if os.path.exists(self.path(word)):
@@ -579,7 +581,7 @@ class Secrets(Memory):
 
     def test_crash_leaves_no_core(self):
         """Also where a seed is given by mistake. Memory that must not be dumped belongs to root, whoever runs it."""
-        for words in (["key", "-", "out"], ["verify", "-", "package"], ["show", "-"], ["preview"]):
+        for words in (["key", "-", "out"], ["verify", "-", "package"], ["show", "-"], ["preview"], ["evaluate"]):
             self.start(*words, **unprivileged())
             wait_for(lambda: call_of(self.process) == READS_INPUT)
             self.assertEqual(os.stat(f"/proc/{self.process.pid}/mem").st_uid, 0)
@@ -606,7 +608,8 @@ class Secrets(Memory):
                 ["sign", "private", "line", "-", *given, "master"],
                 ["verify", "private", "package"], ["verify", "key", "private"], ["lookup", "private", *DEVICE],
                 ["nearest", "private", *MEASURED], ["nearest", "long", *MEASURED],
-                ["show", "long"], ["show", "private"], ["show", "master"], ["preview", "private"])
+                ["show", "long"], ["show", "private"], ["show", "master"], ["preview", "private"],
+                ["evaluate", "private"], ["evaluate", "master"], ["evaluate", "long"])
 
     def check_not_said(self, seeds, said, words):
         for seed in seeds:

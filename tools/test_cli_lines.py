@@ -6,13 +6,10 @@ import itertools
 import os
 import random
 import re
-import shutil
-import struct
 import subprocess
-import tempfile
 
-from cli_case import (ARCHIVE, BAD_LINE, LEAST_LINE, LINE, LINE_60, LINE_77, LINE_C, LONGEST, LONGEST_RATE, MOST_LINE,
-                      PREVIEW, RATE_LINE, RIVALS, ROOT, SHORTEST, SHORTEST_RATE, Case, line_of, listing_of, rows_of)
+from cli_case import (BAD_LINE, LEAST_LINE, LINE, LINE_60, LINE_77, LINE_C, LONGEST, LONGEST_RATE, MOST_LINE, PREVIEW,
+                      RATE_LINE, RIVALS, SHORTEST, SHORTEST_RATE, Case, Explained, line_of, listing_of, rows_of)
 
 # Lines that fill a store: of as many countries and classes, and of both hertz of half as many.
 SIXTEEN = b"".join(line_of("X" + country, letter) for country in "ABCD" for letter in "ABCD")
@@ -178,31 +175,6 @@ def fault_said(said, line):
     return "field", field_said(said, line)
 
 
-# Reads lines, each behind its length, and prints for each what the library answers and what is said of it. A line ends
-# where memory does, so that a byte read past it ends the program.
-EXPLAIN_ALL = """
-#include "program.h"
-#include <sys/mman.h>
-int main(void)
-{
-    uint8_t image[GRIDPROFILE_PROFILE_IMAGE_BYTES], *line;
-    uint32_t length;
-    uint8_t *room = mmap(NULL, 65536 + 4096, PROT_READ | PROT_WRITE, MAP_PRIVATE | MAP_ANONYMOUS, -1, 0);
-    if (room == MAP_FAILED || mprotect(room + 65536, 4096, PROT_NONE) != 0)
-        return 1;
-    while (fread(&length, sizeof length, 1, stdin) == 1) {
-        line = room + 65536 - length;
-        if (fread(line, 1, length, stdin) != length)
-            return 1;
-        int answer = gridprofile_read_line(line, length, image, sizeof image);
-        printf("%d\\n", answer);
-        if (answer != 0)
-            explain_line(stdout, line, length);
-    }
-    return 0;
-}
-"""
-
 ODD = [bytes([byte]) for byte in b"\0\t\n\r +-.,;'\"_019aGZ\x7f\x80\xef\xff"]
 
 
@@ -293,36 +265,7 @@ def chance(draw, count):
         yield bytes(draw.choice(b"GP12,XAB0123456789-\n") for _ in range(draw.randint(40, 86)))
 
 
-class Explain(Case):
-    @classmethod
-    def setUpClass(cls):
-        """Compiled once, with traps for what C leaves undefined."""
-        cls.built = tempfile.mkdtemp(prefix="gridprofile-test-")
-        cls.addClassCleanup(shutil.rmtree, cls.built)
-        source, cls.program = os.path.join(cls.built, "all.c"), os.path.join(cls.built, "all")
-        with open(source, "w", encoding="ascii") as file:
-            file.write(EXPLAIN_ALL)
-        folder = os.path.join(ROOT, "tools/gridprofile")
-        parts = [os.path.join(folder, name) for name in ("explain.c", "kinds.c", "categories.c")]
-        subprocess.run(["gcc", "-std=c11", "-O1", "-Wall", "-Wextra", "-Werror", "-fsanitize=undefined",
-                        "-fsanitize-undefined-trap-on-error", "-I", os.path.join(ROOT, "include"), "-I", folder, source,
-                        *parts, ARCHIVE, "-o", cls.program], check=True)
-
-    def explained(self, lines):
-        """For each line what the library answers, and what is said of it, line by line without the indent."""
-        records = b"".join(struct.pack("<I", len(line)) + line for line in lines)
-        ran = subprocess.run([self.program], input=records, stdout=subprocess.PIPE, timeout=60, check=False)
-        self.assertEqual(ran.returncode, 0)
-        self.assertRegex(ran.stdout, rb"\A[ -~\n]*\Z")
-        results = []
-        for said in ran.stdout.decode().splitlines():
-            if said.startswith("  "):
-                results[-1][1].append(said[2:])
-            else:
-                results.append((int(said), []))
-        self.assertEqual(len(results), len(lines))
-        return results
-
+class Explain(Explained):
     def agree(self, lines):
         """Library and rules give each line the same number, and what the rules find is said, all of it and nothing
         else; what they found in any line."""

@@ -935,6 +935,8 @@ class SmallStack(Case):
             self.assertTrue(self.done("nearest", name + "store", *MEASURED, **small).startswith(LINE))
             self.done("show", name + "store", **small)
             self.assertEqual(self.done("preview", "line", **small), listing_of(["XA,B,50,12"]))
+            self.assertEqual(self.done("evaluate", "line", **small), LINE)
+            self.refused(11, "evaluate", self.put("bad", LINE.replace(b",800,", b",(((((((((8,")), **small)
 
 
 class Many(Case):

@@ -93,6 +93,54 @@ static void lines(const char *prefix)
     one_line(prefix, rate_line, sizeof rate_line - 1, 13, present);
 }
 
+/* A line with formulas evaluated: this line comes out, or nothing where its length is 0. */
+static void expect_evaluated(const char *prefix, const char *name, const char *input, size_t room,
+                             int wanted, const char *text)
+{
+    uint8_t out[GRIDPROFILE_LINE_MAX_BYTES] = {0}, bytes[GRIDPROFILE_LINE_MAX_BYTES] = {0};
+    size_t length = 0;
+    int answer = gridprofile_evaluate_line((const uint8_t *)input, strlen(input), out, room,
+                                           &length);
+    memcpy(bytes, text, strlen(text));
+    expect(prefix, name, answer, wanted, out, bytes, sizeof out);
+    expect_length(length, strlen(text));
+}
+
+/* The worked line of each kind, and an input for each refusal. */
+static void evaluating(const char *prefix)
+{
+    static char most[GRIDPROFILE_FORMULA_LINE_MAX_BYTES + 2];
+    const size_t room = GRIDPROFILE_LINE_MAX_BYTES;
+    expect_evaluated(prefix, "evaluate_line",
+                     "GP1,XA,B,12,230,50,(N+23)*1000/N+50,100,N*80/100+616,1500,50*30,100,"
+                     "0-50*50,100\n",
+                     room, GRIDPROFILE_DONE, line);
+    expect_evaluated(prefix, "evaluate_line",
+                     "GP2,XA,B,13,230,50,1150,100,N*3+110,1500,(((((((1500))))))),100,-2500,100,"
+                     "N*10-300,500\n",
+                     room, GRIDPROFILE_DONE, rate_line);
+    expect_evaluated(prefix, "evaluate_line of a plain line", line, room, GRIDPROFILE_DONE, line);
+    expect_evaluated(prefix, "evaluate_line of no formula",
+                     "GP1,XA,B,12,230,50,1/0+,100,1/0,1500,1500,100,-2500,100\n", room,
+                     GRIDPROFILE_BAD_FORMULA, "");
+    expect_evaluated(prefix, "evaluate_line by zero",
+                     "GP1,XA,B,12,230,50,1/(N-230),100,-0,1500,1500,100,-2500,100\n", room,
+                     GRIDPROFILE_BAD_STEP, "");
+    expect_evaluated(prefix, "evaluate_line of a step too far",
+                     "GP1,XA,B,12,230,50,1000000*2001/1000,100,800,1500,1500,100,-2500,100\n", room,
+                     GRIDPROFILE_BAD_STEP, "");
+    expect_evaluated(prefix, "evaluate_line out of range",
+                     "GP1,XA,B,12,230,50,N,100,800,1500,1500,100,-2500,100\n", room,
+                     GRIDPROFILE_BAD_PROFILE, "");
+    expect_evaluated(prefix, "evaluate_line into a shorter buffer", line, room - 1,
+                     GRIDPROFILE_BAD_SIZE, "");
+    memset(most, '1', GRIDPROFILE_FORMULA_LINE_MAX_BYTES);
+    expect_evaluated(prefix, "evaluate_line of the most bytes", most, room,
+                     GRIDPROFILE_BAD_PROFILE, "");
+    most[GRIDPROFILE_FORMULA_LINE_MAX_BYTES] = '1';
+    expect_evaluated(prefix, "evaluate_line of a byte more", most, room, GRIDPROFILE_BAD_SIZE, "");
+}
+
 /* The listing of lines of both kinds and both hertz, given in descending order: its rows ascend. */
 static void listing(const char *prefix)
 {
@@ -338,6 +386,7 @@ int main(void)
     packing(prefix);
     listing(prefix);
     lines(prefix);
+    evaluating(prefix);
     hashing(prefix);
     for (const struct category *c = categories; c < categories + 3; c++) {
         loading(c);

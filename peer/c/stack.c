@@ -1,7 +1,8 @@
 /* How much stack the entries use: each runs on a stack of its own that was filled with a pattern, and the bytes that no
  * longer hold it are counted. A job that does nothing gives the part that is not the library's. The jobs run with a
- * usual line and then with the longest one, which has a rate point; the greater use counts. A line for each entry: its
- * name and the bytes. Linked with -z now: else the linker's work at the first memcpy would be counted too. */
+ * usual line and then with the longest one, which has a rate point, and with formulas as deep as may be that give the
+ * same line; the greater use counts. A line for each entry: its name and the bytes. Linked with -z now: else the
+ * linker's work at the first memcpy would be counted too. */
 #include <stdint.h>
 #include <stdio.h>
 #include <stdlib.h>
@@ -19,10 +20,22 @@ static const char usual[] = "GP1,XA,B,12,230,50,1150,100,800,1500,1500,100,-2500
 static const char longest[] = "GP2,XA,D,4294967295,1000,60,1500,60000,999,60000,5000,60000,-5000,60000,10000,60000\n";
 _Static_assert(sizeof longest - 1 == GRIDPROFILE_LINE_MAX_BYTES, "no line is longer");
 
+/* Formulas in eight pairs of parentheses: with nothing else in them, and with both kinds of operators at each depth. */
+#define DEEP(limit) "((((((((" limit "))))))))"
+#define STEPS(sign, limit) "0" sign "1*(0+1*(0+1*(0+1*(0+1*(0+1*(0+1*(0+1*(" limit "))))))))"
+
+static const char usual_formulas[] =
+    "GP1,XA,B,12,230,50," DEEP("1150") ",100," DEEP("800") ",1500," DEEP("1500") ",100," DEEP("0-2500") ",100\n";
+static const char longest_formulas[] =
+    "GP2,XA,D,4294967295,1000,60," STEPS("+", "1500") ",60000," STEPS("+", "999") ",60000," STEPS("+", "5000") ",60000,"
+    STEPS("-", "5000") ",60000," STEPS("+", "10000") ",60000\n";
+_Static_assert(sizeof STEPS("+", "10000") - 1 <= 64, "no formula is longer");
+_Static_assert(sizeof longest_formulas - 1 <= GRIDPROFILE_FORMULA_LINE_MAX_BYTES, "no input is longer");
+
 /* The line that the jobs run with, its hertz and its volts. Both lines are for the country `XA`, and byte 7 of a line
  * is its class. */
-static const uint8_t *line;
-static size_t line_len;
+static const uint8_t *line, *formulas;
+static size_t line_len, formulas_len;
 static uint32_t hertz, volts;
 static const uint8_t country[2] = {'X', 'A'};
 #define CLASS line[7]
@@ -88,6 +101,7 @@ BUFFERS(category5_, CATEGORY5_)
     DO(, unpack_exponents, 0, (ALL(packed_exponents), ALL(numbers)))                                                   \
     DO(, read_line, 0, (line, line_len, ALL(profile)))                                                                 \
     DO(, write_line, 0, (ALL(profile), ALL(found), &length))                                                           \
+    DO(, evaluate_line, 0, (formulas, formulas_len, ALL(found), &length))                                              \
     DO(, preview, 0, (line, line_len, ALL(listing), &length))                                                          \
     DO(, lookup, 0, (ALL(lent.store), ALL(country), CLASS, hertz, ALL(found), &length))                                \
     DO(, nearest, 0, (ALL(lent.store), ALL(country), hertz, volts, ALL(found), &length))
@@ -146,10 +160,12 @@ static struct {
 };
 #define JOBS (sizeof jobs / sizeof *jobs)
 
-static void run_all(const char *text, uint32_t its_hertz, uint32_t its_volts)
+static void run_all(const char *text, const char *its_formulas, uint32_t its_hertz, uint32_t its_volts)
 {
     line = (const uint8_t *)text;
     line_len = strlen(text);
+    formulas = (const uint8_t *)its_formulas;
+    formulas_len = strlen(its_formulas);
     hertz = its_hertz;
     volts = its_volts;
     for (size_t at = 0; at < JOBS; at++) {
@@ -162,8 +178,8 @@ static void run_all(const char *text, uint32_t its_hertz, uint32_t its_volts)
 int main(void)
 {
     size_t base = used(nothing);
-    run_all(usual, 50, 230);
-    run_all(longest, 60, 1000);
+    run_all(usual, usual_formulas, 50, 230);
+    run_all(longest, longest_formulas, 60, 1000);
     for (size_t at = 0; at < JOBS; at++)
         printf("%s %zu\n", jobs[at].name, jobs[at].most - base);
     return 0;

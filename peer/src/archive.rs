@@ -44,6 +44,14 @@ pub fn write_line(profile: &[u8], line: &mut [u8], mut length: usize) -> (u8, us
 }
 
 /// Answer and length, as `write_line` gives them.
+pub fn evaluate_line(input: &[u8], line: &mut [u8], mut length: usize) -> (u8, usize) {
+    let ((a, b), (c, d)) = ((input.as_ptr(), input.len()), (line.as_mut_ptr(), line.len()));
+    // SAFETY: as above.
+    let answer = unsafe { c::gridprofile_evaluate_line(a, b, c, d, &mut length) };
+    (answer, length)
+}
+
+/// Answer and length, as `write_line` gives them.
 pub fn preview(input: &[u8], out: &mut [u8], mut length: usize) -> (u8, usize) {
     let ((a, b), (c, d)) = ((input.as_ptr(), input.len()), (out.as_mut_ptr(), out.len()));
     // SAFETY: as above.

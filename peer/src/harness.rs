@@ -1,5 +1,6 @@
 //! Calls both programs on one input, each with guarded buffers of its own, and counts what agreed.
 
+use crate::refusal::ANSWERS;
 use std::fmt::Debug;
 
 /// An entry over an input and a lent buffer.
@@ -70,12 +71,12 @@ impl Lent {
 pub struct Tally {
     name: String,
     inputs: usize,
-    answers: [usize; 11],
+    answers: [usize; ANSWERS],
 }
 
 impl Tally {
     pub fn new(name: impl Into<String>) -> Tally {
-        Tally { name: name.into(), inputs: 0, answers: [0; 11] }
+        Tally { name: name.into(), inputs: 0, answers: [0; ANSWERS] }
     }
 
     pub fn inputs(&self) -> usize {
@@ -109,7 +110,7 @@ impl Tally {
     /// Ends a comparison: at least so many inputs were tried, and just the answers `reached` came.
     pub fn finish(self, least: usize, reached: &[u8]) {
         let Tally { name, inputs, answers } = self;
-        println!("{name}: {inputs} inputs agree; answers 0 to 10: {answers:?}");
+        println!("{name}: {inputs} inputs agree; answers from 0 on: {answers:?}");
         assert!(inputs >= least, "{name}: only {inputs} inputs");
         for (answer, &times) in answers.iter().enumerate() {
             assert_eq!(times > 0, reached.contains(&(answer as u8)), "{name}: answer {answer} came {times} times");

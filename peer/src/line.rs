@@ -116,7 +116,7 @@ impl Profile {
 }
 
 /// A number without sign and leading zero. What does not fit is out of every range.
-fn number(field: &str) -> Option<u32> {
+pub fn number(field: &str) -> Option<u32> {
     let plain = field.bytes().all(|byte| byte.is_ascii_digit()) && (field == "0" || !field.starts_with('0'));
     if plain {
         field.parse().ok()

@@ -13,6 +13,11 @@ pub const OLD_SERIAL: Refusal = 7;
 pub const STORE_FULL: Refusal = 8;
 pub const NOT_STORED: Refusal = 9;
 pub const BAD_DEVICE: Refusal = 10;
+pub const BAD_FORMULA: Refusal = 11;
+pub const BAD_STEP: Refusal = 12;
+
+/// How many numbers there are: "done" and the refusals.
+pub const ANSWERS: usize = 13;
 
 /// Refuses by `refusal` unless `ok`.
 pub fn demand(ok: bool, refusal: Refusal) -> Result<(), Refusal> {

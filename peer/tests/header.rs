@@ -1,6 +1,7 @@
 //! The constants of the C headers are the sizes and numbers of the independent program.
 
 use peer::bits::{packed_size, EXPONENT, VALUE};
+use peer::evaluate;
 use peer::line::{self, Kind, Profile, Rate, Trip};
 use peer::preview;
 use peer::refusal;
@@ -121,6 +122,7 @@ fn expected() -> BTreeMap<String, usize> {
         ("MESSAGE_MAX_BYTES", CATEGORY_1.message),
         ("LINE_MIN_BYTES", line::SHORTEST),
         ("LINE_MAX_BYTES", line::LONGEST),
+        ("FORMULA_LINE_MAX_BYTES", evaluate::LONGEST_INPUT),
         ("PROFILE_IMAGE_BYTES", line::IMAGE),
         ("PREVIEW_MAX_BYTES", preview::LONGEST_INPUT),
         ("LISTING_BYTES", preview::LISTING),
@@ -132,6 +134,8 @@ fn expected() -> BTreeMap<String, usize> {
         ("SHORT_DRAW", usize::from(refusal::SHORT_DRAW)),
         ("BAD_FIELD", usize::from(refusal::BAD_FIELD)),
         ("MISMATCH", usize::from(refusal::MISMATCH)),
+        ("BAD_FORMULA", usize::from(refusal::BAD_FORMULA)),
+        ("BAD_STEP", usize::from(refusal::BAD_STEP)),
     ];
     let later = ["BAD_PROFILE", "OTHER_DEVICE", "OLD_SERIAL", "STORE_FULL", "NOT_STORED", "BAD_DEVICE"];
     let later = later.into_iter().zip(5..);

@@ -54,11 +54,6 @@ static const struct rule rules[FIELDS] = {
     DELAY_RULE("rate of change"),
 };
 
-struct part {
-    const uint8_t *at;
-    size_t length;
-};
-
 /* A line taken apart: what stands around its fields, and the fields. */
 struct line {
     struct part text;           /* the first line, without mark and line end */
@@ -123,7 +118,7 @@ static void cut_line(struct line *line, const uint8_t *bytes, size_t length)
     cut_fields(line);
 }
 
-static int has_any(struct part part, const char *bytes)
+int has_any(struct part part, const char *bytes)
 {
     for (size_t at = 0; at < part.length; at++)
         if (memchr(bytes, part.at[at], strlen(bytes)) != NULL)
@@ -189,7 +184,7 @@ static int raised_letters_fit(enum form form, struct part part)
 }
 
 /* Words for bytes that stand in no field. */
-static const char *odd_bytes(struct part part, const char *otherwise)
+const char *odd_bytes(struct part part, const char *otherwise)
 {
     if (has_any(part, " \t"))
         return ", with a space or a tab";
@@ -275,32 +270,42 @@ static int is_shown_plain(uint8_t byte)
     return is_between(byte, ' ', '~') && byte != '"' && byte != '\\';
 }
 
-/* How many bytes of a part are shown. */
-static size_t count_shown(struct part part)
+/* How many bytes of a part are shown, in so many characters at most. */
+static size_t count_shown(struct part part, size_t most)
 {
     size_t count = 0, width = 0;
-    while (count < part.length && width <= SHOWN)
+    while (count < part.length && width <= most)
         width += is_shown_plain(part.at[count++]) ? 1 : 4;
-    return width <= SHOWN ? count : count - 1;
+    return width <= most ? count : count - 1;
 }
 
-static void print_bytes(FILE *to, struct part part)
+static void print_bytes(FILE *to, struct part part, size_t most)
 {
-    size_t count = count_shown(part);
+    size_t count = count_shown(part, most);
     fputc('"', to);
     for (size_t at = 0; at < count; at++)
         fprintf(to, is_shown_plain(part.at[at]) ? "%c" : "\\x%02X", part.at[at]);
     fputs(count < part.length ? "\"..." : "\"", to);
 }
 
-static void print_part(FILE *to, struct part part)
+void print_part(FILE *to, struct part part, size_t most)
 {
     if (part.at == NULL)
         fputs("missing", to);
     else if (part.length == 0)
         fputs("empty", to);
     else
-        print_bytes(to, part);
+        print_bytes(to, part, most);
+}
+
+void print_field_name(FILE *to, size_t field)
+{
+    fprintf(to, "  field %zu, %s, is ", field + 1, rules[field].name);
+}
+
+void print_field_rule(FILE *to, size_t field)
+{
+    fprintf(to, "; it must be %s\n", rules[field].must);
 }
 
 static void print_first_broken(FILE *to, const struct line *line)
@@ -308,13 +313,14 @@ static void print_first_broken(FILE *to, const struct line *line)
     size_t field = first_broken(line);
     if (field == fields_of(line))
         return;
-    fprintf(to, "  field %zu, %s, is ", field + 1, rules[field].name);
-    print_part(to, line->fields[field]);
+    print_field_name(to, field);
+    print_part(to, line->fields[field], SHOWN);
     if (field == CLASS_FIELD && class_differs(line)) {
         int volts = (int)value_of(line->fields[VOLTS_FIELD]);
         fprintf(to, ", but %d volts are of class %c\n", volts, class_of(volts));
     } else {
-        fprintf(to, "%s; it must be %s\n", trouble(field, line->fields[field]), rules[field].must);
+        fputs(trouble(field, line->fields[field]), to);
+        print_field_rule(to, field);
     }
 }
 
@@ -394,16 +400,29 @@ static int print_front(FILE *to, const struct line *line, size_t length)
     return 0;
 }
 
+static void explain(FILE *to, const struct line *line, size_t length)
+{
+    if (print_front(to, line, length))
+        return;
+    if (line->text.length > 0) {
+        print_first_broken(to, line);
+        print_count(to, line);
+    }
+    if (length > 0)
+        print_end(to, line);
+}
+
 void explain_line(FILE *to, const uint8_t *bytes, size_t length)
 {
     struct line line = {0};
     cut_line(&line, bytes, length);
-    if (print_front(to, &line, length))
-        return;
-    if (line.text.length > 0) {
-        print_first_broken(to, &line);
-        print_count(to, &line);
-    }
-    if (length > 0)
-        print_end(to, &line);
+    explain(to, &line, length);
+}
+
+void explain_whole_line(FILE *to, const uint8_t *bytes, size_t length)
+{
+    struct line line = {0};
+    cut_line(&line, bytes, length);
+    line.open = 0;
+    explain(to, &line, length);
 }

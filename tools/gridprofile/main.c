@@ -19,6 +19,7 @@ static const struct command commands[] = {
     {"new-store", 1, 1, 1, run_new_store}, {"load", 6, 6, 1, run_load},
     {"lookup", 4, 4, 0, run_lookup},   {"nearest", 4, 4, 0, run_nearest},
     {"show", 1, 1, 0, run_show},       {"preview", 0, 1, 0, run_preview},
+    {"evaluate", 0, 1, 0, run_evaluate},
 };
 
 static const struct command *find_command(const char *name)

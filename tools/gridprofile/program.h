@@ -66,6 +66,12 @@ int has_line_size(size_t size);
 int is_line_input(const struct input *input);
 const char *input_kind(const struct input *input);
 
+/* Some of the bytes of a text: a line, or a field of one. */
+struct part {
+    const uint8_t *at;
+    size_t length;
+};
+
 /* What is asked for. */
 struct request {
     const char *command;
@@ -165,7 +171,9 @@ int draw(uint8_t *bytes, size_t length);
 int share_bytes(const uint8_t *seed, size_t seed_length, const uint8_t *bytes, size_t length);
 
 /* trouble.c: says what is wrong, and returns the exit status. `line` is the refused line, or NULL. What
- * a user or a file system named is printed by `print_name`, on standard error. */
+ * a user or a file system named is printed by `print_name`, on standard error. `begin_refusal` and
+ * `end_refusal` are for a command with words of its own in between; where meaning or advice are NULL, they
+ * are those of the number. */
 void print_name(const char *name);
 int wrong_usage(const char *command, const char *what, const char *which);
 int file_trouble(const char *doing, const char *path, const char *why);
@@ -175,14 +183,28 @@ int refused_package(const char *command, int answer, const struct input *inputs,
                     const struct input *package);
 int misused(const char *command, const char *what, const char *advice);
 int refused_because(const char *command, int answer, const char *meaning, const char *advice);
+void begin_refusal(const char *command, int answer, const char *meaning);
+int end_refusal(int answer, const char *advice);
 int damaged_store(const char *path, const char *how);
 void warn(const char *path, const char *what);
 extern const char *const unreplaceable;
 extern const char *const former_store_advice;
 void print_refusals(FILE *to);
 
-/* explain.c: what is wrong first with a line that the library refuses. */
+/* explain.c: what is wrong first with a line that the library refuses; `explain_whole_line` is for one of
+ * which all was read, however long it is. The others are for more words on a field, which counts from 0:
+ * its name, its content in so many characters at most and without controls, words for odd bytes in it,
+ * and its rule. */
 void explain_line(FILE *to, const uint8_t *bytes, size_t length);
+void explain_whole_line(FILE *to, const uint8_t *bytes, size_t length);
+void print_field_name(FILE *to, size_t field);
+void print_part(FILE *to, struct part part, size_t most);
+const char *odd_bytes(struct part part, const char *otherwise);
+int has_any(struct part part, const char *bytes);
+void print_field_rule(FILE *to, size_t field);
+
+/* formulas.c: what is wrong first with a line that evaluating refuses with this answer. */
+void explain_formulas(FILE *to, int answer, struct part line);
 
 /* words.c: prints a profile's image, or answers 5 where it breaks a rule. */
 uint32_t serial_of(const uint8_t *image);
@@ -233,5 +255,6 @@ int run_lookup(const struct request *request);
 int run_nearest(const struct request *request);
 int run_show(const struct request *request);
 int run_preview(const struct request *request);
+int run_evaluate(const struct request *request);
 
 #endif

@@ -31,6 +31,10 @@ static const struct refusal refusals[] = {
      "load a package for it first; `gridprofile show` prints what is stored, which may be for other hertz"},
     {"the country is not two letters A to Z, the class not one of A to D, or the hertz not 50 or 60",
      "write them as in: XA B 50"},
+    {"a limit is no formula: empty, outside the grammar, over 64 characters or over 8 deep",
+     "correct the formula; `gridprofile help evaluate` has the rules"},
+    {"a formula divides by 0, or a result in it is outside -2000000000 to 2000000000",
+     "correct the formula; `gridprofile help evaluate` has the rules"},
 };
 
 /* A byte that a terminal could take for an order: of a control, also of one that UTF-8 writes as C2 80
@@ -155,6 +159,17 @@ int refused_because(const char *command, int answer, const char *meaning, const 
     return answer;
 }
 
+void begin_refusal(const char *command, int answer, const char *meaning)
+{
+    print_heading(command, answer, meaning != NULL ? meaning : refusals[answer - 1].meaning);
+}
+
+int end_refusal(int answer, const char *advice)
+{
+    print_advice(advice != NULL ? advice : refusals[answer - 1].advice);
+    return answer;
+}
+
 /* What helps to find the cause, of the key under which a package does not hold: a line may have its
  * size. */
 static void print_key(int answer, const struct input *key)
@@ -228,11 +243,20 @@ static void print_size_advice(const struct input *inputs, size_t count)
                 "all sizes.\n", told.category->number);
 }
 
+/* A refused line that the library evaluates is wrong in its formulas alone. */
+static const char *line_advice(const uint8_t *line, size_t length)
+{
+    uint8_t plain[GRIDPROFILE_LINE_MAX_BYTES];
+    size_t plain_length = 0;
+    if (gridprofile_evaluate_line(line, length, plain, sizeof plain, &plain_length) == 0)
+        return "this line has formulas: `gridprofile evaluate` turns them into numbers; sign what it prints";
+    return refusals[GRIDPROFILE_BAD_PROFILE - 1].advice;
+}
+
 int refused(const char *command, int answer, const struct input *inputs, size_t count,
             const uint8_t *line, size_t length)
 {
     const struct refusal *refusal = &refusals[answer - 1];
-    const struct refusal *on_line = &refusals[GRIDPROFILE_BAD_PROFILE - 1];
     print_heading(command, answer, refusal->meaning);
     for (size_t at = 0; at < count; at++)
         print_input(answer, &inputs[at]);
@@ -241,7 +265,7 @@ int refused(const char *command, int answer, const struct input *inputs, size_t 
     if (line == NULL && answer == GRIDPROFILE_BAD_SIZE)
         print_size_advice(inputs, count);
     else
-        print_advice(line != NULL ? on_line->advice : refusal->advice);
+        print_advice(line != NULL ? line_advice(line, length) : refusal->advice);
     return answer;
 }
 

@@ -61,6 +61,19 @@ static const struct page pages[] = {
      "The lines are taken as if they were signed; without FILE they come from standard input. Each\n"
      "profile has one row, and the rows stand in the order of country, class and hertz. How many lines\n"
      "were skipped, and why the first was, is said on standard error.\n"},
+    {"evaluate", "[FILE]", "", "print lines with numbers in the place of formulas",
+     "FILE is a sheet of profile lines, at most 65536 bytes; without FILE it comes from standard input.\n"
+     "In its lines, at most 400 bytes each, the limits may be formulas: over-voltage, under-voltage,\n"
+     "over-frequency, under-frequency and, in a GP2 line, rate of change. Each line is printed as the\n"
+     "profile line that can be signed, or nothing is printed: where a line is refused, standard error\n"
+     "says how many are, and what is wrong with the first.\n"
+     "\n"
+     "A formula has whole numbers up to 1000000 without leading zeros, N for the nominal volts of its\n"
+     "line, + - * / and parentheses, at most 8 deep; it has at most 64 characters, and no spaces.\n"
+     "* and / go before + and -, and equals from left to right; / drops the remainder towards zero. The\n"
+     "result of each operation must be within -2000000000 to 2000000000, and no divisor 0. A minus in\n"
+     "front stands only before a plain number, as in -2500; else a formula begins as 0-N*10 does.\n"
+     "At 230 volts N*115/100-4 gives 260, (N+23)*1000/N gives 1100, 7/2*2 gives 6, (0-7)/2 gives -3.\n"},
 };
 
 static const char *const options =
@@ -111,7 +124,8 @@ static const char *const line_rules =
     "  16 its delay\n"
     "Numbers have no leading zeros and no plus. Two examples:\n"
     "  GP1,XA,B,12,230,50,1150,100,800,1500,1500,100,-2500,100\n"
-    "  GP2,XA,B,13,230,50,1150,100,800,1500,1500,100,-2500,100,2000,500\n";
+    "  GP2,XA,B,13,230,50,1150,100,800,1500,1500,100,-2500,100,2000,500\n"
+    "Where the limits (7, 9, 11, 13 and 15) are formulas, `gridprofile evaluate` makes such a line of it.\n";
 
 static const struct page *find_page(const char *name)
 {
@@ -158,7 +172,7 @@ void print_usage(FILE *to)
     fputs(files, to);
     print_refusals(to);
     fputs("For nearest, 9 is that no profile of COUNTRY and HERTZ is within 40 volts; 10 is for VOLTS "
-          "too.\n", to);
+          "too.\nFor evaluate, 1 is a line of more than 400 bytes, or a sheet of more than 65536.\n", to);
 }
 
 int print_help(const char *command)

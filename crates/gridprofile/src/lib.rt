@@ -11,6 +11,7 @@ ghost use Rattle.image.specs.Entries.{ReadsImage, WritesImage};
 ghost use Rattle.store.specs.Calls.{LooksUp};
 ghost use Rattle.nearest.specs.Nearest.{Suggests};
 ghost use Rattle.preview.specs.Preview.{PreviewsTo};
+ghost use Rattle.evaluate.specs.Evaluate.{EvaluatesLine};
 
 #[no_mangle]
 pub extern "C" fn gridprofile_shake128(input: &[u8], out: &mut [u8])
@@ -109,4 +110,13 @@ pub extern "C" fn gridprofile_nearest(
         (now (length .entry)) r (now (out .exit)) (now (length .exit)) ⌝ }
 {
     nearest::nearest(store, country, hertz, volts, out, length)
+}
+
+#[no_mangle]
+pub extern "C" fn gridprofile_evaluate_line(input: &[u8], out: &mut [u8], length: &mut usize) -> u8
+    ensures { λ r.
+        ⌜ EvaluatesLine classes (now (input .entry)) (now (out .entry)) (now (length .entry)) r
+        (now (out .exit)) (now (length .exit)) ⌝ }
+{
+    evaluate::evaluate_line(input, out, length)
 }

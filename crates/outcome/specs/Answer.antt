@@ -14,7 +14,7 @@ pub data Refusal : Type 0 where
 abbrev pub numberOf : Refusal → ℕ
 numberOf (refusal k) = suc k
 
--- the refusals of the table "Returned", 1 to 10
+-- the refusals of the table "Returned", 1 to 10, and those of document 02
 abbrev pub bad-size : Refusal
 bad-size = refusal 0
 
@@ -44,6 +44,12 @@ not-stored = refusal 8
 
 abbrev pub bad-device : Refusal
 bad-device = refusal 9
+
+abbrev pub bad-formula : Refusal
+bad-formula = refusal 10
+
+abbrev pub bad-step : Refusal
+bad-step = refusal 11
 
 abbrev pub pick {ℓ} : {A : Type ℓ} → Bool → A → A → A
 pick true a b = a

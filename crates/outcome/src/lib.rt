@@ -18,3 +18,7 @@ pub const STORE_FULL: u8 = 8;
 pub const NOT_STORED: u8 = 9;
 
 pub const BAD_DEVICE: u8 = 10;
+
+pub const BAD_FORMULA: u8 = 11;
+
+pub const BAD_STEP: u8 = 12;

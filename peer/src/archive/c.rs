@@ -18,6 +18,8 @@ extern "C" {
         line_len: usize,
         length: *mut usize,
     ) -> u8;
+    pub fn gridprofile_evaluate_line(input: In, input_len: usize, line: Out, line_len: usize, length: *mut usize)
+        -> u8;
     pub fn gridprofile_preview(input: In, input_len: usize, out: Out, out_len: usize, length: *mut usize) -> u8;
     pub fn gridprofile_lookup(
         store: In,

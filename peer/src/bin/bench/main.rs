@@ -4,8 +4,8 @@
 //! The first two columns are the library's time over the others': below 1 it is the quicker one. The
 //! column SHAKE says what part of a job's time the library's SHAKE takes for strings of the lengths
 //! that the job hashes, measured in the same turns. Stack use comes from the program that the first
-//! argument names (`c/stack.c`); without it that column stays empty. For `lookup`, `nearest`, `read_line`
-//! and `write_line` the plain program is the clear one of this crate: it has no fast one.
+//! argument names (`c/stack.c`); without it that column stays empty. For `lookup`, `nearest`, `read_line`,
+//! `write_line` and `evaluate_line` the plain program is the clear one of this crate: it has no fast one.
 
 mod growth;
 mod measure;
@@ -35,6 +35,7 @@ fn main() {
     small::hashing(&mut rng, &stacks);
     small::packing(&mut rng, &stacks);
     small::lines(&stacks);
+    small::formulas(&stacks);
     let rounds = CATEGORIES.map(|category| category.name_in_c("verify_round"));
     stacks.print(&[&rounds[..], &["preview".to_string()]].concat());
     growth::by_category(&mut rng);

@@ -1,10 +1,12 @@
-//! Rows of the small entries: SHAKE, samples, packing, lines.
+//! Rows of the small entries: SHAKE, samples, packing, lines, formulas.
 
 use crate::measure::least;
 use crate::stacks::Stacks;
 use crate::table::{print, Row};
 use peer::archive::{self, Category};
 use peer::entries;
+use peer::evaluate::cases::LISTED;
+use peer::evaluate::evaluate_line;
 use peer::fast::keccak::shake;
 use peer::fast::packing as plain_packing;
 use peer::harness::Function;
@@ -199,5 +201,19 @@ pub fn lines(stacks: &Stacks) {
             let job = Job { entry: entry.to_string(), inputs: &inputs, out_len, proved: &proved, plain };
             print(&Row { name: format!("{entry}, {kind}"), ..row(stacks, job) });
         }
+    }
+}
+
+/// The worked line of each kind evaluated, at many volts.
+pub fn formulas(stacks: &Stacks) {
+    let plain = |input: &[u8], line: &mut [u8]| evaluate_line(input, line, 0).0;
+    let proved = |input: &[u8], line: &mut [u8]| archive::evaluate_line(input, line, 0).0;
+    for (kind, (_, line, _)) in ["GP1", "GP2"].into_iter().zip(LISTED) {
+        let at_volts = |at: usize| line.replace(",230,", &format!(",{},", 229 - at)).into_bytes();
+        let inputs: Vec<Vec<u8>> = (0..INPUTS).map(at_volts).collect();
+        let entry = "evaluate_line".to_string();
+        let job = Job { entry, inputs: &inputs, out_len: LONGEST, proved: &proved, plain };
+        let row = row(stacks, job);
+        print(&Row { name: format!("{}, {kind}", row.name), ..row });
     }
 }

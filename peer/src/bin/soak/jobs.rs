@@ -16,7 +16,7 @@ struct Entry {
 /// Keys and signatures of the greater categories are dearer, and so they have fewer inputs: enough for every
 /// answer to come in the short run.
 #[rustfmt::skip]
-static ENTRIES: [Entry; 22] = [
+static ENTRIES: [Entry; 23] = [
     Entry { name: "shake128", inputs: &[1_000_000], answers: &[0], one: small::shake128 },
     Entry { name: "shake256", inputs: &[1_000_000], answers: &[0], one: small::shake256 },
     Entry { name: "pack_values", inputs: &[1_000_000], answers: &[0, 1, 3], one: small::pack_values },
@@ -50,6 +50,7 @@ static ENTRIES: [Entry; 22] = [
     },
     Entry { name: "read_line", inputs: &[2_000_000], answers: &[0, 1, 5], one: lines::read_line },
     Entry { name: "write_line", inputs: &[2_000_000], answers: &[0, 1, 5], one: lines::write_line },
+    Entry { name: "evaluate_line", inputs: &[2_000_000], answers: &[0, 1, 5, 11, 12], one: lines::evaluate_line },
     Entry { name: "preview", inputs: &[200_000], answers: &[0, 1], one: lines::preview },
     Entry {
         name: "make_package", inputs: &[200_000, 80_000, 80_000], answers: &[0, 1, 5], one: store::make_package,

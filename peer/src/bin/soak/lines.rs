@@ -1,8 +1,10 @@
-//! Inputs for lines read and written, and for the preview.
+//! Inputs for lines read, written and evaluated, and for the preview.
 
 use crate::turn::{damaged, number, resized, size, Turn};
 use peer::archive::c;
 use peer::entries;
+use peer::evaluate::cases::any as any_formulas;
+use peer::evaluate::{evaluate_line as plain_evaluate_line, LONGEST_INPUT};
 use peer::line::cases::{any_image, by_length, fields, joined, some_rate, texts, valid};
 use peer::line::{image as image_of, write_line as written, Profile, IMAGE, LONGEST, RATE, SHORTEST};
 use peer::preview::cases::any;
@@ -109,6 +111,23 @@ pub fn write_line(t: &mut Turn) -> u8 {
     let image = image(&mut t.rng);
     let (image, room) = (resized(&mut t.rng, &image, 15), size(&mut t.rng, LONGEST, 15));
     t.length(c::gridprofile_write_line, entries::write_line, &image, room)
+}
+
+/// Mostly lines with formulas, good and just not. One of eight is any other line; one of 16 of these inputs is damaged,
+/// and one of another length.
+pub fn evaluate_line(t: &mut Turn) -> u8 {
+    let mut input = if t.one_in(8) { line(&mut t.rng) } else { any_formulas(&mut t.rng) };
+    match t.rng.below(32) {
+        0 | 1 => input = damaged(&mut t.rng, &input),
+        2 => input = resized(&mut t.rng, &input, 0),
+        3 => {
+            let (len, fill) = (size(&mut t.rng, LONGEST_INPUT, 0), [b'\n', b'0'][t.rng.below(2)]);
+            input.resize(len, fill);
+        }
+        _ => (),
+    }
+    let room = size(&mut t.rng, LONGEST, 15);
+    t.length(c::gridprofile_evaluate_line, plain_evaluate_line, &input, room)
 }
 
 /// One of two is refused for its room; one of 1,000 is about as long as an input may be. One of four begins with any

@@ -3,6 +3,7 @@
 use crate::lent::Fence;
 use crate::turn::Turn;
 use crate::world::{worlds, Worlds};
+use peer::refusal::ANSWERS;
 use peer::rng::Rng;
 use std::ops::Range;
 use std::panic::{catch_unwind, AssertUnwindSafe};
@@ -21,7 +22,7 @@ pub struct Job {
 }
 
 /// Inputs by answer.
-type Tally = [usize; 11];
+type Tally = [usize; ANSWERS];
 
 /// So many inputs reach every answer of an entry, however they are drawn.
 const ENOUGH: usize = 5_000;
@@ -38,7 +39,7 @@ pub struct Run {
 }
 
 /// What the answers mean, in a word.
-const ANSWERS: [&str; 11] = [
+const MEANINGS: [&str; ANSWERS] = [
     "0 done",
     "1 size",
     "2 short",
@@ -50,9 +51,11 @@ const ANSWERS: [&str; 11] = [
     "8 full",
     "9 none",
     "10 device",
+    "11 limit",
+    "12 step",
 ];
 
-fn line(name: &str, inputs: &str, cells: [String; 11], seconds: &str) -> String {
+fn line(name: &str, inputs: &str, cells: [String; ANSWERS], seconds: &str) -> String {
     let cells = cells.map(|cell| format!("{cell:>9}")).join(" ");
     format!("{name:33} {inputs:>8} {cells} {seconds:>8}")
 }
@@ -65,7 +68,7 @@ impl Run {
         let chosen = |job: &&Job| self.only.is_empty() || self.only == job.name;
         assert!(jobs.iter().any(|job| chosen(&job)), "ONLY={} is no entry", self.only);
         println!("soak: SEED={}, {threads} at a time\n", self.seed);
-        println!("{}", line("entry", "inputs", ANSWERS.map(str::to_string), "seconds"));
+        println!("{}", line("entry", "inputs", MEANINGS.map(str::to_string), "seconds"));
         let (worlds, start, mut all) = (worlds(self.seed), Instant::now(), 0);
         for job in jobs.iter().filter(chosen) {
             all += self.row(job, &worlds, threads);

@@ -1,0 +1,4 @@
+pub mod Evaluate
+pub mod Theorems
+pub mod Cases
+pub mod InnerText

@@ -1,0 +1,12 @@
+pub mod StepLaws
+pub mod DigitLaws
+pub mod ReaderLaws
+pub mod LevelLaws
+pub mod AtomLaws
+pub mod WholeLaws
+pub mod NumberLaws
+pub mod ChainLaws
+pub mod OperatorLaws
+pub mod Sound
+pub mod Complete
+pub mod Theorems

@@ -1,0 +1,5 @@
+pub mod Grammar
+pub mod Meaning
+pub mod Reader
+pub mod Theorems
+pub mod InnerReader
