@@ -2,7 +2,7 @@
 -- on the trees; of a sum or a product it is shown that reading arrives behind it with turns left for all that follows.
 -- Assumes nothing.
 use mathlib.Core.Path.{_≡_, refl, _∙_, sym, ap, subst}
-use mathlib.Core.Bool.{true, false}
+use mathlib.Core.Bool.{true, false, false≢true}
 use mathlib.Core.List.{List, [], _∷_, _++_, append-assoc}
 use Prim.Native.Nat.{ℕ, zero, suc, _≤_}
 use native.Mathlib.Omega.{arith}
@@ -54,7 +54,7 @@ use Rattle.formula.specs.Reader.{
   readProduct,
   readSum,
 }
-use Rattle.formula.proofs.NumberLaws.{starts, true-false, number-complete, number-starts}
+use Rattle.formula.proofs.NumberLaws.{starts, number-complete, number-starts}
 use Rattle.formula.proofs.ChainLaws.{Arrives, arrives-found, arrives-grown}
 use Rattle.formula.proofs.OperatorLaws.{
   of-additive,
@@ -123,13 +123,13 @@ scale-read pairs p o a rest e read =
 
 -- a digit is not a byte that is none
 digit-not : (b c : ℕ) → isDigit b ≡ true → isDigit c ≡ false → eqb b c ≡ false
-digit-not b c d e = ne-eqb b c (λ same. true-false (sym d ∙ ap isDigit same ∙ e))
+digit-not b c d e = ne-eqb b c (λ same. false≢true (sym e ∙ ap isDigit (sym same) ∙ d))
 
 -- bytes that start with a digit are an atom where they are a number
 digits-atom : (pairs : ℕ) (bytes : List ℕ) (n : ℕ) (rest : List ℕ) → starts isDigit bytes ≡ true
     → readNumber bytes ≡ found n rest → readAtom pairs bytes ≡ found (number n) rest
 unfolding atomWith
-digits-atom pairs [] n rest d e = absurd (true-false (sym d))
+digits-atom pairs [] n rest d e = absurd (false≢true d)
 digits-atom pairs (b ∷ bytes) n rest d e = rw (digit-not b letterN d refl, digit-not b opening d refl, e)
 
 -- a number is an atom

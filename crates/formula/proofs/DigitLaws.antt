@@ -1,7 +1,7 @@
 -- Laws of numbers without leading zeros: digits spell back the number that they give where the first of them is not 0 or stands
 -- alone; so what `read_decimal` finds tells what `readNumber` finds. Assumes nothing.
 use mathlib.Core.Path.{_≡_, refl, _∙_, sym, ap, ap₂, subst}
-use mathlib.Core.Bool.{Bool, true, false, cond, _&&_}
+use mathlib.Core.Bool.{Bool, true, false, cond, and-eq-true-iff, and-false}
 use mathlib.Core.List.{List, [], _∷_, _++_, append-assoc, append-nil}
 use Prim.Native.Nat.{ℕ, _+_, _-_, _*_, _/_, _%_, min, _≤_, _<_}
 use native.Mathlib.Nat.{add-zero}
@@ -76,11 +76,7 @@ leading-head (b ∷ bs) h = at (isDigit b) h
 
 -- a digit is at most `9`
 digit-high : (b : ℕ) → isDigit b ≡ true → b ≤ 57
-digit-high b e = leb-true b 57 (both-right (leb 48 b) (leb b 57) e)
-  where
-    both-right : (p q : Bool) → (p && q) ≡ true → q ≡ true
-    both-right true q e = e
-    both-right false q e = cc
+digit-high b e = leb-true b 57 (and-eq-true-iff (leb 48 b) (leb b 57) .0 e .1)
 
 -- ---- digits spell back the number that they give
 
@@ -183,10 +179,6 @@ large-none : (bs : List ℕ) → mostNumber < leadingNumber bs → readNumber bs
 unfolding readNumber
 large-none bs h =
     rw (lt-leb (leadingNumber bs) mostNumber h, and-false (same (leadingDigits bs) (decimal (leadingNumber bs))))
-  where
-    and-false : (t : Bool) → (t && false) ≡ false
-    and-false true = refl
-    and-false false = refl
 
 -- ---- what `read_decimal` found at a place tells what `readNumber` finds there
 

@@ -27,10 +27,6 @@ found-same e = (cc, cc)
 pub none-found : {A : Type 0} {a : A} {r : List ℕ} → _≡_ {A = Front A} none (found a r) → ⊥
 none-found e = let z : _≡_ {A = ℕ} 0 1 = cc in omega arith
 
--- true is not false
-pub true-false : true ≡ false → ⊥
-true-false e = let z : _≡_ {A = ℕ} 0 1 = cc in omega arith
-
 -- ---- the digits at the front
 
 -- whether some bytes start with a byte of a kind

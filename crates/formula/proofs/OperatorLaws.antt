@@ -1,7 +1,7 @@
 -- Operators and their bytes: each is the operator of its byte, and a byte that is one is the byte of its operator.
 -- Assumes nothing.
 use mathlib.Core.Path.{_≡_, refl, sym}
-use mathlib.Core.Bool.{Bool, true, false, _||_}
+use mathlib.Core.Bool.{Bool, true, false, false≢true, _||_}
 use Prim.Native.Nat.{ℕ}
 use lib.Dec.{eqb}
 use borrow.Author.Tests.{eqb-true}
@@ -22,7 +22,6 @@ use Rattle.formula.specs.Grammar.{
   additive,
   multiplicative,
 }
-use Rattle.formula.proofs.NumberLaws.{true-false}
 
 -- ---- `+` and `-`
 
@@ -52,7 +51,7 @@ byte-additive b = by-tests (eqb b 43) (eqb b dash) refl refl
     by-tests : (t u : Bool) → eqb b 43 ≡ t → eqb b dash ≡ u → (t || u) ≡ true → additiveByte (pick t plus minus) ≡ b
     by-tests true u e f h = sym (eqb-true b 43 e)
     by-tests false true e f h = sym (eqb-true b dash f)
-    by-tests false false e f h = absurd (true-false (sym h))
+    by-tests false false e f h = absurd (false≢true h)
 
 -- ---- `*` and `/`, alike
 
@@ -74,4 +73,4 @@ byte-multiplicative b = by-tests (eqb b 42) (eqb b 47) refl refl
     by-tests : (t u : Bool) → eqb b 42 ≡ t → eqb b 47 ≡ u → (t || u) ≡ true → multiplicativeByte (pick t times over) ≡ b
     by-tests true u e f h = sym (eqb-true b 42 e)
     by-tests false true e f h = sym (eqb-true b 47 f)
-    by-tests false false e f h = absurd (true-false (sym h))
+    by-tests false false e f h = absurd (false≢true h)

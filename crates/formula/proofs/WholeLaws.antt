@@ -33,8 +33,8 @@ use Rattle.formula.specs.Reader.{
   valueIn,
   valueOf,
 }
-use Rattle.formula.specs.InnerReader.{worthOf, bounded, worths, PartAt, NumberPart, SumAt}
-use Rattle.formula.specs.Meaning.{Answered, Evaluates, NegativeOf, SumOf}
+use Rattle.formula.specs.InnerReader.{worthOf, bounded, worths, PartAt, NumberPart, SumAt, NegativeOf, SumOf}
+use Rattle.formula.specs.Meaning.{Answered, Evaluates}
 use Rattle.formula.proofs.StepLaws.{abs-negated, stored, stored-bounded, less-fits, less-stored}
 
 -- ---- what a part says of its front

@@ -12,8 +12,21 @@ use Rattle.formula.specs.declared.steps.Worth.{Worth}
 use Rattle.formula.specs.declared.steps.Worth.the-variants.{Number, Fault}
 use Rattle.formula.specs.declared.reader.Part.{Part}
 use Rattle.formula.specs.declared.reader.Part.the-variants.{Read, Unread}
-use Rattle.formula.specs.Grammar.{mostStep, sumValue, productValue, atomValue}
-use Rattle.formula.specs.Reader.{Front, found, none, readNumber, readAtom, readProduct, readSum}
+use Rattle.formula.specs.declared.Evaluated.{Evaluated}
+use Rattle.formula.specs.Grammar.{deepest, mostStep, sumValue, productValue, atomValue}
+use Rattle.formula.specs.Reader.{
+  Front,
+  found,
+  none,
+  readNumber,
+  wholeNegative,
+  readAtom,
+  readProduct,
+  readSum,
+  wholeSum,
+  valueIn,
+}
+use Rattle.formula.specs.Meaning.{Answered}
 
 abbrev pub worthOf : Worth → Result ℤ
 worthOf (Number z) = done z
@@ -57,3 +70,10 @@ ProductAt volts pairs s at = PartAt (λ p. productValue p volts) (readProduct pa
 
 abbrev pub SumAt : ℕ → ℕ → List ℕ → ℕ → Part → Type 0
 SumAt volts pairs s at = PartAt (λ x. sumValue x volts) (readSum pairs (drop at s)) s at
+
+-- the two halves of `evaluate`: the field without its minus, and a sum
+abbrev pub NegativeOf : (field : List ℕ) (r : Evaluated) → Type 0
+NegativeOf field = Answered (valueIn 0 (wholeNegative (readNumber (drop 1 field))))
+
+abbrev pub SumOf : (volts : ℕ) (field : List ℕ) (r : Evaluated) → Type 0
+SumOf volts field = Answered (valueIn volts (wholeSum (readSum deepest field)))

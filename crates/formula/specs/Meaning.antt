@@ -3,14 +3,13 @@
 use mathlib.Core.Path.{_≡_}
 use mathlib.Core.List.{List}
 use Prim.Native.Nat.{ℕ, _≤_}
-use lib.ListN.{drop}
 use lib.IntN.{ℤ, natAbs}
 use Rattle.outcome.specs.Answer.{bad-formula, bad-step}
 use Rattle.outcome.specs.Result.{Result, done, refused}
 use Rattle.formula.specs.declared.Evaluated.{Evaluated}
 use Rattle.formula.specs.declared.Evaluated.the-variants.{Value, BadFormula, BadStep}
-use Rattle.formula.specs.Grammar.{Formula, Derived, deepest, mostStep, formulaValue}
-use Rattle.formula.specs.Reader.{readNumber, wholeNegative, readSum, wholeSum, valueIn, valueOf}
+use Rattle.formula.specs.Grammar.{Formula, Derived, mostStep, formulaValue}
+use Rattle.formula.specs.Reader.{valueOf}
 
 -- the result for a field at these nominal volts: the value of every tree that derives it, and 11 where none does
 pub record Means (volts : ℕ) (field : List ℕ) (result : Result ℤ) : Type 0 where
@@ -36,10 +35,3 @@ pub record Answered (result : Result ℤ) (r : Evaluated) : Type 0 where
 -- what `evaluate` promises: its answer is what the field is worth, which is what it means (Theorems)
 abbrev pub Evaluates : (volts : ℕ) (field : List ℕ) (r : Evaluated) → Type 0
 Evaluates volts field = Answered (valueOf volts field)
-
--- its two halves: the field without its minus, and a sum
-abbrev pub NegativeOf : (field : List ℕ) (r : Evaluated) → Type 0
-NegativeOf field = Answered (valueIn 0 (wholeNegative (readNumber (drop 1 field))))
-
-abbrev pub SumOf : (volts : ℕ) (field : List ℕ) (r : Evaluated) → Type 0
-SumOf volts field = Answered (valueIn volts (wholeSum (readSum deepest field)))

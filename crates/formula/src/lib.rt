@@ -9,7 +9,8 @@ use steps::Worth;
 ghost use Prim.Native.Nat.{_≤_};
 ghost use lib.ListN.{length};
 ghost use Rattle.formula.specs.Grammar.{mostVolts};
-ghost use Rattle.formula.specs.Meaning.{Evaluates, NegativeOf, SumOf};
+ghost use Rattle.formula.specs.InnerReader.{NegativeOf, SumOf};
+ghost use Rattle.formula.specs.Meaning.{Evaluates};
 
 // The greatest length of a formula.
 pub const LONGEST_FORMULA: usize = 64;

@@ -3,6 +3,19 @@
 use super::*;
 use crate::rng::Rng;
 
+/// What an entry answers that writes a line into lent bytes, and the line: past it, and after a refusal, bytes and length
+/// are as they were.
+pub fn handed_out(entry: impl FnOnce(&mut [u8], usize) -> (Refusal, usize)) -> Result<Vec<u8>, Refusal> {
+    let mut out = [7; LONGEST];
+    let (answer, length) = entry(&mut out, 99);
+    if answer != 0 {
+        assert_eq!((length, out), (99, [7; LONGEST]));
+        return Err(answer);
+    }
+    assert!(out[length..].iter().all(|&byte| byte == 7));
+    Ok(out[..length].to_vec())
+}
+
 /// A number in the range, often at its ends.
 fn within(rng: &mut Rng, range: &RangeInclusive<u32>) -> u32 {
     let (low, high) = (*range.start(), *range.end());

@@ -1,6 +1,7 @@
 //! The worked table, ties, the ends of the reach, and images that no load made.
 
 use super::*;
+use crate::line::cases::handed_out;
 use crate::line::{read_line, write_line, LONGEST};
 
 /// The lines of the worked store.
@@ -26,17 +27,10 @@ fn at(volts: u32, serial: u32) -> Profile {
     Profile { volts, serial, ..worked(0) }
 }
 
-/// What the entry answers for this store, and the line: a refusal leaves bytes and length as they were.
+/// What the entry answers for this store, and the line.
 fn answer(store: &Store, measured: &Measured) -> Result<Vec<u8>, Refusal> {
-    let (image, mut out) = (store.image(), [7; LONGEST]);
-    let (answer, length) = nearest(&image, measured, &mut out, 99);
-    assert_eq!(image, store.image());
-    if answer != 0 {
-        assert_eq!((length, out), (99, [7; LONGEST]));
-        return Err(answer);
-    }
-    assert!(out[length..].iter().all(|&byte| byte == 7));
-    Ok(out[..length].to_vec())
+    let image = store.image();
+    handed_out(|out, length| nearest(&image, measured, out, length))
 }
 
 #[test]
