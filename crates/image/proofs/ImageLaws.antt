@@ -16,10 +16,9 @@ use Rattle.profile.specs.declared.RatePoint.{RatePoint}
 use Rattle.profile.specs.declared.RatePoint.the-variants.{Absent, Present}
 use Rattle.profile.specs.declared.Profile.{Profile}
 use Rattle.profile.specs.Rules.{rate, kindOf, sizeOf}
+use Rattle.words.specs.Words.{wordAt, word, Small}
 use Rattle.image.specs.Image.{
   profileSize,
-  wordAt,
-  word,
   limitFrom,
   tripOf,
   rateFrom,
@@ -36,14 +35,13 @@ use Rattle.image.specs.Image.{
   rateDelay,
   rateImage,
   tripsImage,
-  Small,
   imageOf,
   TripFits,
   RateFits,
   Fits,
   ProfileWritten,
 }
-use Rattle.image.proofs.WordLaws.{word-again}
+use Rattle.words.proofs.WordLaws.{word-again}
 
 pub image-size : (p : Profile) → length (imageOf p) ≡ profileSize
 unfolding imageOf tripImage rateImage

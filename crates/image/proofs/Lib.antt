@@ -1,4 +1,3 @@
-pub mod WordLaws
 pub mod ImageLaws
 pub mod EntryLaws
 pub mod Theorems

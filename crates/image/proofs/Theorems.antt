@@ -34,7 +34,8 @@ use Rattle.profile.specs.Rules.{
 use Rattle.profile.specs.Line.{lineOf}
 use Rattle.profile.proofs.RuleLaws.{and-first, and-rest, same-kinds, top, range-bounds, parts}
 use Rattle.profile.proofs.Theorems.{writes-read}
-use Rattle.image.specs.Image.{number, wordAt, tripOf, rateOf, profileOf, isRate, isRatePoint, Small, TripFits, RateFits}
+use Rattle.words.specs.Words.{number, wordAt, Small}
+use Rattle.image.specs.Image.{tripOf, rateOf, profileOf, isRate, isRatePoint, TripFits, RateFits}
 use Rattle.image.specs.Theorems.{ProfileAgain, ImageFits, ValidFits, LineAgain}
 use Rattle.image.proofs.ImageLaws.{profile-again}
 

@@ -6,10 +6,11 @@
 use mathlib.Core.Path.{_≡_}
 use mathlib.Core.Bool.{Bool, true, _&&_, not}
 use mathlib.Core.List.{List, [], _∷_, _++_}
-use Prim.Native.Nat.{ℕ, _+_, _*_, _/_, _%_, _<_}
+use Prim.Native.Nat.{ℕ, _+_}
 use lib.Dec.{eqb}
 use lib.ListN.{getD}
 use Rattle.outcome.specs.Answer.{pick}
+use Rattle.words.specs.Words.{wordAt, word, Small}
 use Rattle.profile.specs.declared.Limit.{Limit}
 use Rattle.profile.specs.declared.Limit.the-variants.{Share, Offset, Rate}
 use Rattle.profile.specs.declared.Trip.{Trip}
@@ -20,20 +21,6 @@ use Rattle.profile.specs.Rules.{share, above, rate, kindOf, sizeOf}
 
 abbrev pub profileSize : ℕ
 profileSize = 76
-
--- ---- numbers
-
--- the number that four bytes spell
-abbrev pub number : ℕ → ℕ → ℕ → ℕ → ℕ
-number a b c d = a + 256 * (b + 256 * (c + 256 * d))
-
--- the number at a place of an image
-unfoldable pub wordAt : List ℕ → ℕ → ℕ
-wordAt image at = number (getD image at 0) (getD image (at + 1) 0) (getD image (at + 2) 0) (getD image (at + 3) 0)
-
--- a number's four bytes
-abbrev pub word : ℕ → List ℕ
-word n = n % 256 ∷ n / 256 % 256 ∷ n / 65536 % 256 ∷ n / 16777216 % 256 ∷ []
 
 -- ---- the profile that an image means
 
@@ -123,9 +110,6 @@ hasImage p =
     && (not (isRate (p .«under_frequency»)) && isRatePoint (p .«rate_of_change»))))
 
 -- such a profile fits, since the numbers of every value of these types are below 2^32
-
-abbrev pub Small : ℕ → Type 0
-Small n = n < 4294967296
 
 abbrev pub TripFits : Trip → Type 0
 TripFits t = Small (sizeOf (t .limit)) × Small (t .delay)

@@ -4,24 +4,11 @@ use profile::Limit;
 use profile::Profile;
 use profile::RatePoint;
 use profile::Trip;
+use words::word_at;
 ghost use mathlib.Core.Path.{_≡_};
 ghost use Prim.Native.Nat.{_+_, _≤_};
 ghost use lib.ListN.{length};
-ghost use Rattle.image.specs.Image.{profileSize, number, wordAt, limitFrom, tripOf, rateOf, profileOf};
-
-fn join(a: u8, b: u8, c: u8, d: u8) -> u32
-    ensures { λ r. ⌜ r ≡ number a b c d ⌝ }
-{
-    (a as u32) + 256 * ((b as u32) + 256 * ((c as u32) + 256 * (d as u32)))
-}
-
-// The number at a place.
-pub fn word_at(image: &[u8], at: usize) -> u32
-    requires { ⌜ at + 4 ≤ length (now image) ⌝ }
-    ensures { λ r. ⌜ r ≡ wordAt (now (image .entry)) at ⌝ }
-{
-    join(image[at], image[at + 1], image[at + 2], image[at + 3])
-}
+ghost use Rattle.image.specs.Image.{profileSize, limitFrom, tripOf, rateOf, profileOf};
 
 fn limit_from(kind: u32, size: u32) -> Limit
     ensures { λ r. ⌜ r ≡ limitFrom kind size ⌝ }

@@ -6,45 +6,17 @@ use profile::Trip;
 use profile::rules::RATE;
 use profile::rules::kind_of;
 use profile::rules::size_of;
+use words::append_words;
 ghost use mathlib.Core.Path.{_≡_};
 ghost use mathlib.Core.Bool.{true};
-ghost use mathlib.Core.List.{_++_};
-ghost use Prim.Native.Nat.{_+_, _≤_, _%_};
+ghost use Prim.Native.Nat.{_+_, _≤_};
 ghost use lib.ListN.{length};
 ghost use Rattle.decimal.specs.Decimal.{Appended};
-ghost use Rattle.image.specs.Image.{profileSize, word, headImage, tripImage, rateImage, tripsImage};
-ghost use Rattle.image.specs.Image.{isRate, isRatePoint, hasImage, Small, TripFits, RateFits, TripsFit};
+ghost use Rattle.image.specs.Image.{profileSize, headImage, tripImage, rateImage, tripsImage};
+ghost use Rattle.image.specs.Image.{isRate, isRatePoint, hasImage, TripFits, RateFits, TripsFit};
 ghost use Rattle.image.specs.Image.{ProfileWritten};
 
-fn low(n: u32) -> u8
-    ensures { λ r. ⌜ r ≡ n % 256 ⌝ }
-{
-    (n % 256) as u8
-}
-
-// Writes a number from place `at`, and returns the place after it. So do the next four.
-fn append_word(n: u32, out: &mut [u8], at: usize) -> usize
-    requires { ⌜ at + 4 ≤ length (now out) ⌝ }
-    ensures { λ r. ⌜ Appended (now (out .entry)) at (word n) (now (out .exit)) r ⌝ }
-{
-    out[at] = low(n);
-    out[at + 1] = low(n / 256);
-    out[at + 2] = low(n / 65536);
-    out[at + 3] = low(n / 16777216);
-    at + 4
-}
-
-// Three numbers: serial, volts and hertz, or those of a trip point.
-fn append_words(a: u32, b: u32, c: u32, out: &mut [u8], at: usize) -> usize
-    requires { ⌜ at + 12 ≤ length (now out) ⌝ }
-    ensures { λ r. ⌜ Appended (now (out .entry)) at (word a ++ (word b ++ word c)) (now (out .exit)) r ⌝ }
-    ensures { λ r. ⌜ Small a × Small b × Small c ⌝ }
-{
-    let second = append_word(a, out, at);
-    let third = append_word(b, out, second);
-    append_word(c, out, third)
-}
-
+// Writes a trip point from place `at`, and returns the place after it. So do the next three.
 fn append_trip(t: Trip, out: &mut [u8], at: usize) -> usize
     requires { ⌜ at + 12 ≤ length (now out) ⌝ }
     ensures { λ r. ⌜ Appended (now (out .entry)) at (tripImage t) (now (out .exit)) r ⌝ }

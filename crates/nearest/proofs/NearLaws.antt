@@ -11,7 +11,8 @@ use Rattle.outcome.specs.Answer.{not-stored, pick}
 use Rattle.outcome.specs.Result.{Result, done, refused}
 use Rattle.profile.specs.declared.Profile.{Profile}
 use Rattle.profile.specs.Rules.{contains, inOneOf, letters, nominalHertz}
-use Rattle.image.specs.Image.{wordAt, profileOf}
+use Rattle.words.specs.Words.{wordAt}
+use Rattle.image.specs.Image.{profileOf}
 use Rattle.store.specs.Stored.{capacity, Slot, slotOf, slotsOf, slotBytes, profilesIn, stored}
 use Rattle.store.proofs.KeyLaws.{and-fails, and-holds}
 use Rattle.store.proofs.PlaceLaws.{slots-next, slots-past}

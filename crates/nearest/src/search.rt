@@ -2,9 +2,9 @@
 use super::Measured;
 use super::REACH;
 use image::PROFILE_SIZE;
-use image::read::word_at;
 use store::CAPACITY;
 use store::is_used;
+use words::word_at;
 ghost use mathlib.Core.Path.{_≡_};
 ghost use Prim.Native.Nat.{_<_};
 ghost use lib.ListN.{length};

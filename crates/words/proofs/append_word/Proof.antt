@@ -1,10 +1,10 @@
--- `image::write::append_word` meets its contract: four stores. Assumes nothing.
+-- `words::append_word` meets its contract: four stores. Assumes nothing.
 use native.Mathlib.Omega.{arith}
 use lib.ListN.{length-set}
-use Rattle.image.proofs.WordLaws.{word-appended}
+use Rattle.words.proofs.WordLaws.{word-appended}
 use borrow.Author.Needs.{needs}
-use Rattle.image.proofs.write.append_word.Statement.{statement}
-use Rattle.image.proofs.write.append_word.Tie as tie
+use Rattle.words.proofs.append_word.Statement.{statement}
+use Rattle.words.proofs.append_word.Tie as tie
 
 low-requires : tie.Need-low-requires
 low-requires c κs = search needs

@@ -1,9 +1,9 @@
--- `image::write::append_words` meets its contract: three numbers, one after the other. Assumes nothing.
+-- `words::append_words` meets its contract: three numbers, one after the other. Assumes nothing.
 use Rattle.decimal.proofs.Stores.{then}
-use Rattle.image.specs.Image.{Small}
+use Rattle.words.specs.Words.{Small}
 use borrow.Author.Needs.{needs}
-use Rattle.image.proofs.write.append_words.Statement.{statement}
-use Rattle.image.proofs.write.append_words.Tie as tie
+use Rattle.words.proofs.append_words.Statement.{statement}
+use Rattle.words.proofs.append_words.Tie as tie
 
 -- numbers of their types
 small : (c : tie.Start) → Small (c .args .a) × Small (c .args .b) × Small (c .args .c)

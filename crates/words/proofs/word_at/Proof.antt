@@ -1,8 +1,8 @@
--- `image::read::word_at` meets its contract: four bytes, low byte first. Assumes nothing.
-use Rattle.image.specs.Image.{wordAt}
+-- `words::word_at` meets its contract: four bytes, low byte first. Assumes nothing.
+use Rattle.words.specs.Words.{wordAt}
 use borrow.Author.Needs.{needs}
-use Rattle.image.proofs.read.word_at.Statement.{statement}
-use Rattle.image.proofs.read.word_at.Tie as tie
+use Rattle.words.proofs.word_at.Statement.{statement}
+use Rattle.words.proofs.word_at.Tie as tie
 
 shared-slice-read-join : tie.Need-shared-slice-read-join
 shared-slice-read-join c = search needs

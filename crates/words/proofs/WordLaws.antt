@@ -8,7 +8,7 @@ use native.Mathlib.Omega.{arith}
 use lib.ListN.{set}
 use lib.Seq.{sets}
 use Rattle.decimal.specs.Decimal.{Appended}
-use Rattle.image.specs.Image.{number, word, Small}
+use Rattle.words.specs.Words.{number, word, Small}
 
 join : (n a b c d x y : ℕ) → n ≡ x * 256 + a → x ≡ y * 256 + b → y ≡ d * 256 + c → number a b c d ≡ n
 join n a b c d x y first second third = omega arith
