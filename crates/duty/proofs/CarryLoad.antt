@@ -11,10 +11,10 @@ use lib.Seq.{length-take-le, take-at}
 use Rattle.outcome.specs.Answer.{Check, AnswersFront}
 use Rattle.parameters.specs.declared.Params.{Params}
 use Rattle.parameters.specs.Sound.{Sound}
-use Rattle.profile.specs.Rules.{Class}
 use Rattle.profile.specs.Line.{longest}
 use Rattle.scheme.specs.Key.{publicKey}
 use Rattle.scheme.specs.Sign.{signatureSize}
+use Rattle.store.specs.Stored.{classesOf}
 use Rattle.store.specs.Calls.{LooksUp}
 use Rattle.package.specs.Entries.{MakesFromLine, Loads}
 use Rattle.package.proofs.FromLine.{made}
@@ -41,15 +41,15 @@ made-length a = sym (length-take-le _ _ (made-within a))
 
 -- ---- making, loading and looking up, put together
 
-pub makes-and-loads : {p : Params} {table : List Class} → Sound p
-    → {private master salt line country : List ℕ} {class hertz : ℕ} {store old : List ℕ} {r : Loaded}
+pub makes-and-loads : {p : Params} → Sound p
+    → {table private master salt line country : List ℕ} {class hertz : ℕ} {store old : List ℕ} {r : Loaded}
     {public store′ out found : List ℕ} {size length-found : ℕ}
     → MakesKeyAnew p private (r .key) public
     → MakesFromLine p table private master salt line old 0 (r .make) out size
-    → Loads p table public (take size out) country class hertz store (r .load) store′
-    → LooksUp table store′ country class hertz (replicate longest 0) 0 (r .lookup) found length-found
+    → Loads p (classesOf store) public (take size out) country class hertz store (r .load) store′
+    → LooksUp (classesOf store′) store′ country class hertz (replicate longest 0) 0 (r .lookup) found length-found
     → MakesAndLoads p table private master salt line country class hertz store old r store′ out
-makes-and-loads {p} {table} sound {private} {master} {salt} {line} {country} {class} {hertz} {store} {old} {r} {public}
+makes-and-loads {p} sound {table} {private} {master} {salt} {line} {country} {class} {hertz} {store} {old} {r} {public}
     {store′} {out} {found} {size} {length-found} wrote makes loaded looked =
     record {
       public = public;
@@ -64,13 +64,14 @@ makes-and-loads {p} {table} sound {private} {master} {salt} {line} {country} {cl
           let sealed : MakesFromLine p table private master salt line old 0 0 out size = rw zero at makes in
           let signed = made p table private master salt line sealed .signed in
           let key = key-made p private master salt line (signatureSize p) (r .key) wrote signed in
-          let loads : Loads p table (publicKey p private) (take size out) country class hertz store (r .load) store′ =
+          let loads : Loads p (classesOf store) (publicKey p private) (take size out) country class hertz store (r .load)
+          store′ =
           rw (key .1) at loaded in
-          let of-line = line-loads table p sound private master salt line old out 0 size sealed in (
+          let of-line = line-loads p sound table private master salt line old out 0 size sealed in (
             of-line .0,
             of-line .1,
-            λ two own whole newer room.
-                let all = of-line .2 country class hertz store (r .load) store′ two own whole newer room loads in
+            λ two own whole ok newer room.
+                let all = of-line .3 country class hertz store (r .load) store′ two own whole ok newer room loads in
                 let room-for = length-replicate {A = ℕ} longest 0 in
                 let line-found = all .2 (replicate longest 0) 0 (r .lookup) found length-found room-for looked in
                 let written : take length-found found ≡ line =

@@ -1,5 +1,5 @@
 -- What the entry answers, by the first check that fails, under every class table. Assumes nothing.
-use mathlib.Core.Path.{_≡_, refl, _∙_, ap, subst}
+use mathlib.Core.Path.{_≡_, refl, _∙_, sym, ap, subst}
 use mathlib.Core.Bool.{true, false}
 use mathlib.Core.Logic.{inl, inr}
 use mathlib.Core.List.{List, [], _∷_, _++_}
@@ -10,13 +10,24 @@ use lib.ListN.{length, drop}
 use types.Run.{OneOf}
 use denote.Enum.Declared.{tagOf}
 use borrow.Author.Tests.{eq-eqb, ne-eqb, le-leb, lt-leb}
-use Rattle.outcome.specs.Answer.{Refusal, refusal, bad-formula, bad-step, Check, firstRefusal, AnswersFront}
+use Rattle.outcome.specs.Answer.{
+  Refusal,
+  refusal,
+  bad-profile,
+  bad-formula,
+  bad-step,
+  Check,
+  _unless_,
+  firstRefusal,
+  AnswersFront,
+}
 use Rattle.outcome.specs.Result.{Result, done, refused}
 use Rattle.outcome.proofs.Checks.{done as answered-done, refused as answered-refused}
 use Rattle.profile.specs.declared.Profile.{Profile}
 use Rattle.profile.specs.declared.ReadLine.{ReadLine}
 use Rattle.profile.specs.declared.ReadLine.the-variants.{Read, BadSize, BadLine}
 use Rattle.profile.specs.Rules.{_to_, inOneOf, plain, number, fieldsOf, one, fits, obeys, Class, valid}
+use Rattle.profile.specs.Table.{tableSize, tableOf}
 use Rattle.profile.specs.Line.{longest, readLine, readAnswer}
 use Rattle.profile.proofs.ReadLine.{the-type}
 use Rattle.profile.proofs.RuleLaws.{and-first, and-rest, parts, range-bounds}
@@ -147,50 +158,66 @@ told-nothing text BadStep stop p = ap textIn (told-refused text BadStep bad-step
 
 -- ---- the entry
 
-module _ (table : List Class) (input old : List ℕ) (before : ℕ) where
-  -- the input is too long
-  pub input-long : longestInput < length input → EvaluatesLine table input old before 1 old before
-  input-long long = front-refused 0 (rw (lt-leb (length input) longestInput long))
+module _ (table input old : List ℕ) (before : ℕ) where
+  -- the table's image has another size
+  pub other-table : (length table ≡ tableSize → ⊥) → EvaluatesLine table input old before 1 old before
+  other-table other = front-refused 0 (rw (ne-eqb (length table) tableSize other))
 
-  module _ (short : length input ≤ longestInput) where
-    -- another number of bytes is lent
-    pub other-lent : (length old ≡ longest → ⊥) → EvaluatesLine table input old before 1 old before
-    other-lent other =
-        front-refused 0 (rw (le-leb (length input) longestInput short, ne-eqb (length old) longest other))
+  module _ (whole : length table ≡ tableSize) where
+    -- the input is too long
+    pub input-long : longestInput < length input → EvaluatesLine table input old before 1 old before
+    input-long long =
+        front-refused 0 (rw (eq-eqb (length table) tableSize whole, lt-leb (length input) longestInput long))
 
-    module _ (lent : length old ≡ longest) where
-      -- the first LF is not the last byte
-      pub not-closed : isClosed input ≡ false → EvaluatesLine table input old before 5 old before
-      not-closed unclosed =
-          front-refused 4
-          (rw (le-leb (length input) longestInput short, eq-eqb (length old) longest lent, unclosed))
+    module _ (short : length input ≤ longestInput) where
+      -- another number of bytes is lent
+      pub other-lent : (length old ≡ longest → ⊥) → EvaluatesLine table input old before 1 old before
+      other-lent other =
+          front-refused 0
+          (rw (
+            eq-eqb (length table) tableSize whole,
+            le-leb (length input) longestInput short,
+            ne-eqb (length old) longest other,
+          ))
 
-      module _ (closed : isClosed input ≡ true) where
-        -- the line with sound limits is no line
-        pub no-frame : (sound : List ℕ) → textIn (soundText input) ≡ sound → isRead (readLine table sound) ≡ false
-            → EvaluatesLine table input old before 5 old before
-        no-frame sound e broken =
-            front-refused 4
-            (rw (le-leb (length input) longestInput short, eq-eqb (length old) longest lent, closed, e, broken))
-
-        -- nor is it where it cannot be written
-        pub no-sound : textIn (soundText input) ≡ [] → EvaluatesLine table input old before 5 old before
-        no-sound e = no-frame [] e (nothing-read table)
-
-        -- the formulas decide
-        pub framed : (sound : List ℕ) (p : Profile) {k after : ℕ} {new : List ℕ} → textIn (soundText input) ≡ sound
-            → readLine table sound ≡ done p → FinishesText table (p .volts) input old before k new after
-            → EvaluatesLine table input old before k new after
-        framed sound p {k} {after} {new} e read finished =
-            let read-frame : frame table input ≡ done p = ap (readLine table) e ∙ read in
-            let plain : Result (List ℕ) = plainLine table input in
-            let whole : AnswersFront (plainChecks table plain) (textIn plain) old before k new after =
-            rw read-frame finished in
-            let passes : firstRefusal (plainChecks table plain) ≡ firstRefusal (evaluateChecks table input old) =
+      module _ (lent : length old ≡ longest) where
+        -- where the sizes are right the other checks decide
+        sized : {k : ℕ}
+            → firstRefusal
+            (bad-profile unless isClosed input
+            ∷ bad-profile unless isRead (frame (tableOf table) input)
+            ∷ plainChecks (tableOf table) (plainLine (tableOf table) input))
+            ≡ k
+            → firstRefusal (evaluateChecks table input old) ≡ k
+        sized e =
             rw (
+              eq-eqb (length table) tableSize whole,
               le-leb (length input) longestInput short,
               eq-eqb (length old) longest lent,
-              closed,
-              ap isRead read-frame,
-            ) in
-            front-as passes whole
+            ) e
+
+        -- the first LF is not the last byte
+        pub not-closed : isClosed input ≡ false → EvaluatesLine table input old before 5 old before
+        not-closed unclosed = front-refused 4 (sized (rw unclosed))
+
+        module _ (closed : isClosed input ≡ true) where
+          -- the line with sound limits is no line
+          pub no-frame : (sound : List ℕ) → textIn (soundText input) ≡ sound → isRead (readLine (tableOf table) sound) ≡ false
+              → EvaluatesLine table input old before 5 old before
+          no-frame sound e broken = front-refused 4 (sized (rw (closed, e, broken)))
+
+          -- nor is it where it cannot be written
+          pub no-sound : textIn (soundText input) ≡ [] → EvaluatesLine table input old before 5 old before
+          no-sound e = no-frame [] e (nothing-read (tableOf table))
+
+          -- the formulas decide
+          pub framed : (sound : List ℕ) (p : Profile) {k after : ℕ} {new : List ℕ} → textIn (soundText input) ≡ sound
+              → readLine (tableOf table) sound ≡ done p
+              → FinishesText (tableOf table) (p .volts) input old before k new after
+              → EvaluatesLine table input old before k new after
+          framed sound p {k} {after} {new} e read finished =
+              let read-frame : frame (tableOf table) input ≡ done p = ap (readLine (tableOf table)) e ∙ read in
+              let plain : Result (List ℕ) = plainLine (tableOf table) input in
+              let rest : AnswersFront (plainChecks (tableOf table) plain) (textIn plain) old before k new after =
+              rw read-frame finished in
+              front-as (sym (sized (rw (closed, ap isRead read-frame)))) rest

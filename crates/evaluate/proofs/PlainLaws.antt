@@ -10,7 +10,7 @@ use Prim.Native.Nat.{ℕ, zero, suc, _%_, _/_, _≤_}
 use native.Mathlib.Omega.{arith}
 use lib.Dec.{T, eqb, leb}
 use lib.IntN.{ℤ, pos, negℤ}
-use borrow.Author.Tests.{leb-true, eqb-true, ne-eqb}
+use borrow.Author.Tests.{leb-true, ne-eqb}
 use Rattle.outcome.specs.Answer.{pick}
 use Rattle.outcome.specs.Result.{Result, done}
 use Rattle.outcome.proofs.Computed.{both-left, both-right}
@@ -43,8 +43,6 @@ use Rattle.profile.specs.Rules.{
   fits,
   obeys,
   Class,
-  classIn,
-  isClass,
   letters,
   valid,
 }
@@ -69,7 +67,6 @@ use Rattle.evaluate.specs.Evaluate.{
   textIn,
   frame,
 }
-use Rattle.evaluate.specs.Theorems.{LettersOnly}
 
 -- ---- texts with neither comma nor LF
 
@@ -343,7 +340,7 @@ unfolding valid
 sound-valid table p ok =
     let known : Valid table p = parts table p ok in
     let obeying : obeys (rules (lineKind p)) (fieldsOf (sound p)) ≡ true = put-obeys (sound-put p) (known .fields) in
-    rw (known .first, known .second, sound-kind (p .«rate_of_change»), obeying, known .agrees) tt
+    rw (known .first, known .second, sound-kind (p .«rate_of_change»), obeying, known .letter, known .agrees) tt
 
 -- the number that each limit is replaced by
 abbrev soundly : ℕ → List ℕ → Result ℤ
@@ -386,18 +383,7 @@ small-rules : (kind : LineKind) → T (smallBehind 2 (rules kind))
 small-rules GP1 = tt
 small-rules GP2 = tt
 
--- under a table of letters the class is a letter
-pub class-letter : (table : List Class) → LettersOnly table → (volts c : ℕ) → isClass (classIn table volts) c ≡ true
-    → contains letters c ≡ true
-class-letter [] only volts c e = absurd (false≢true e)
-class-letter (row ∷ table) only volts c e = at (class-letter table (only .1) volts c) (contains (row .volts) volts) e
-  where
-    at : (isClass (classIn table volts) c ≡ true → contains letters c ≡ true) → (b : Bool)
-        → isClass (pick b (done (row .letter)) (classIn table volts)) c ≡ true → contains letters c ≡ true
-    at later true e = rw (eqb-true c (row .letter) e) (holds (contains letters (row .letter)) (only .0))
-    at later false e = later e
-
-module _ (table : List Class) (p : Profile) (ok : T (valid table p)) (letter : contains letters (p .class) ≡ true) where
+module _ (table : List Class) (p : Profile) (ok : T (valid table p)) where
   -- nor have country and class
   free-country : Free (countryOf p)
   free-country =
@@ -406,7 +392,7 @@ module _ (table : List Class) (p : Profile) (ok : T (valid table p)) (letter : c
       (free-letter (p .country .second) [] (known .second) tt)
 
   free-class : Free (p .class ∷ [])
-  free-class = free-letter (p .class) [] letter tt
+  free-class = free-letter (p .class) [] (parts table p ok .letter) tt
 
   -- its first LF is its last byte
   pub closed-line : isClosed (lineOf p) ≡ true

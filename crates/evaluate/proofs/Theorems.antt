@@ -14,9 +14,9 @@ use Rattle.outcome.proofs.Checks.{holds, passed, answered}
 use Rattle.formula.specs.Reader.{valueOf}
 use Rattle.formula.proofs.Theorems.{worth-is-meant, one-meaning, value-number, value-negative}
 use Rattle.profile.specs.declared.Profile.{Profile}
-use Rattle.profile.specs.Rules.{contains, letters, Class, classes, valid}
+use Rattle.profile.specs.Rules.{Class, valid}
+use Rattle.profile.specs.Table.{tableSize, tableOf}
 use Rattle.profile.specs.Line.{longest, lineOf, readLine}
-use Rattle.profile.proofs.RuleLaws.{parts}
 use Rattle.profile.proofs.Theorems.{reads-written, writes-read, line-lengths-hold}
 use Rattle.evaluate.specs.Evaluate.{
   longestInput,
@@ -32,12 +32,8 @@ use Rattle.evaluate.specs.Evaluate.{
   evaluateChecks,
   EvaluatesLine,
 }
-use Rattle.evaluate.specs.Theorems.{TextAsMeant, LettersOnly, ComesOutRead, PlainStays}
-use Rattle.evaluate.proofs.PlainLaws.{class-letter, closed-line, framed, plain-line}
-
--- the built-in classes have letters
-pub classes-letters : LettersOnly classes
-classes-letters = (tt, (tt, (tt, (tt, tt))))
+use Rattle.evaluate.specs.Theorems.{TextAsMeant, ComesOutRead, PlainStays}
+use Rattle.evaluate.proofs.PlainLaws.{closed-line, framed, plain-line}
 
 -- ---- the text rests on what the formulas mean
 
@@ -56,8 +52,8 @@ text-as-meant meant means volts input =
     (λ k f. one-meaning volts f (meant volts f) (valueOf volts f) (means volts f) (worth-is-meant volts f)) 0 (fields input)
 
 -- what an entry hands out that refuses nothing: the plain line
-handed : (table : List Class) (input old : List ℕ) (before answer : ℕ) (lent : List ℕ) (after : ℕ) (text : List ℕ)
-    → EvaluatesLine table input old before answer lent after → answer ≡ 0 → plainLine table input ≡ done text
+handed : (table input old : List ℕ) (before answer : ℕ) (lent : List ℕ) (after : ℕ) (text : List ℕ)
+    → EvaluatesLine table input old before answer lent after → answer ≡ 0 → plainLine (tableOf table) input ≡ done text
     → (lent ≡ text ++ drop (length text) old) × (after ≡ length text)
 handed table input old before answer lent after text meets zero plain =
     (meets .answers .content ∙ rw (zero, plain), meets .size ∙ rw (zero, plain))
@@ -75,60 +71,64 @@ finished table (done text) e = at (readLine table text) refl (passed (plainCheck
     at (done p) f t = let back = writes-read table text p f in (p, back .1, ap done (sym (back .0)))
     at (refused r) f t = absurd t
 
-pub comes-out-read : (table : List Class) → ComesOutRead table
+pub comes-out-read : (table : List ℕ) → ComesOutRead table
 comes-out-read table input old before answer lent after meets zero =
+    let classes : List Class = tableOf table in
     let checks : List Check = evaluateChecks table input old in
     let known : Passed checks = passed checks (sym (meets .answers .answer) ∙ zero) in
-    let rest : List Check = plainChecks table (plainLine table input) in
-    let found : (p : Profile) × T (valid table p) × (plainLine table input ≡ done (lineOf p)) =
-    finished table (plainLine table input) (answered rest (known .1 .1 .1 .1)) in
+    let rest : List Check = plainChecks classes (plainLine classes input) in
+    let found : (p : Profile) × T (valid classes p) × (plainLine classes input ≡ done (lineOf p)) =
+    finished classes (plainLine classes input) (answered rest (known .1 .1 .1 .1 .1)) in
     let p : Profile = found .0 in
-    let ok : T (valid table p) = found .1 in
-    let plain : plainLine table input ≡ done (lineOf p) = found .2 in
+    let ok : T (valid classes p) = found .1 in
+    let plain : plainLine classes input ≡ done (lineOf p) = found .2 in
     let out : (lent ≡ lineOf p ++ drop (length (lineOf p)) old) × (after ≡ length (lineOf p)) =
     handed table input old before answer lent after (lineOf p) meets zero plain in
-    (p, ok, plain, reads-written table p ok, out .0, out .1)
+    (p, ok, plain, reads-written classes p ok, out .0, out .1)
 
 -- ---- a plain line stays
 
-module _ (table : List Class) where
+module _ (table : List ℕ) where
   -- the line of a valid profile passes every check, and the plain line is itself
-  module _ (p : Profile) (ok : T (valid table p)) (letter : contains letters (p .class) ≡ true) where
-    itself : plainLine table (lineOf p) ≡ done (lineOf p)
-    itself = plain-line table p ok letter value-number value-negative (voltsIn (frame table (lineOf p)))
+  module _ (p : Profile) (ok : T (valid (tableOf table) p)) where
+    itself : plainLine (tableOf table) (lineOf p) ≡ done (lineOf p)
+    itself = plain-line (tableOf table) p ok value-number value-negative (voltsIn (frame (tableOf table) (lineOf p)))
 
-    passes : (old : List ℕ) → length old ≡ longest → firstRefusal (evaluateChecks table (lineOf p) old) ≡ 0
-    passes old size =
+    passes : (old : List ℕ) → length table ≡ tableSize → length old ≡ longest
+        → firstRefusal (evaluateChecks table (lineOf p) old) ≡ 0
+    passes old whole size =
+        let classes : List Class = tableOf table in
         let line : List ℕ = lineOf p in
+        let sized : eqb (length table) tableSize ≡ true = eq-eqb (length table) tableSize whole in
         let short : leb (length line) longestInput ≡ true =
-        le-leb (length line) longestInput (omega (arith, line-lengths-hold table p ok)) in
+        le-leb (length line) longestInput (omega (arith, line-lengths-hold classes p ok)) in
         let room : eqb (length old) longest ≡ true = eq-eqb (length old) longest size in
-        let closed : isClosed line ≡ true = closed-line table p ok letter in
-        let read : isRead (frame table line) ≡ true = ap isRead (framed table p ok letter) in
-        let plain : firstRefusal (plainChecks table (plainLine table line)) ≡ 0 =
-        ap (λ (r : Result (List ℕ)). firstRefusal (plainChecks table r)) itself
-        ∙ ap (λ (r : Result Profile). firstRefusal (bad-profile unless isRead r ∷ [])) (reads-written table p ok) in
-        let rest₄ : List Check = plainChecks table (plainLine table line) in
-        let rest₃ : List Check = bad-profile unless isRead (frame table line) ∷ rest₄ in
-        let rest₂ : List Check = bad-profile unless isClosed line ∷ rest₃ in
-        let rest₁ : List Check = bad-size unless eqb (length old) longest ∷ rest₂ in
-        holds bad-size (leb (length line) longestInput) rest₁ short
-        ∙ holds bad-size (eqb (length old) longest) rest₂ room
-        ∙ holds bad-profile (isClosed line) rest₃ closed
-        ∙ holds bad-profile (isRead (frame table line)) rest₄ read
+        let closed : isClosed line ≡ true = closed-line classes p ok in
+        let read : isRead (frame classes line) ≡ true = ap isRead (framed classes p ok) in
+        let plain : firstRefusal (plainChecks classes (plainLine classes line)) ≡ 0 =
+        ap (λ (r : Result (List ℕ)). firstRefusal (plainChecks classes r)) itself
+        ∙ ap (λ (r : Result Profile). firstRefusal (bad-profile unless isRead r ∷ [])) (reads-written classes p ok) in
+        let rest₅ : List Check = plainChecks classes (plainLine classes line) in
+        let rest₄ : List Check = bad-profile unless isRead (frame classes line) ∷ rest₅ in
+        let rest₃ : List Check = bad-profile unless isClosed line ∷ rest₄ in
+        let rest₂ : List Check = bad-size unless eqb (length old) longest ∷ rest₃ in
+        let rest₁ : List Check = bad-size unless leb (length line) longestInput ∷ rest₂ in
+        holds bad-size (eqb (length table) tableSize) rest₁ sized
+        ∙ holds bad-size (leb (length line) longestInput) rest₂ short
+        ∙ holds bad-size (eqb (length old) longest) rest₃ room
+        ∙ holds bad-profile (isClosed line) rest₄ closed
+        ∙ holds bad-profile (isRead (frame classes line)) rest₅ read
         ∙ plain
 
   pub plain-stays : PlainStays table
-  plain-stays only line p read old before answer lent after room meets =
-      let back : (lineOf p ≡ line) × T (valid table p) = writes-read table line p read in
-      let ok : T (valid table p) = back .1 in
-      let letter : contains letters (p .class) ≡ true =
-      class-letter table only (p .volts) (p .class) (parts table p ok .agrees) in
+  plain-stays line p whole read old before answer lent after room meets =
+      let back : (lineOf p ≡ line) × T (valid (tableOf table) p) = writes-read (tableOf table) line p read in
+      let ok : T (valid (tableOf table) p) = back .1 in
       let zero : answer ≡ 0 =
       meets .answers .answer
-      ∙ subst (λ (l : List ℕ). firstRefusal (evaluateChecks table l old) ≡ 0) (back .0) (passes p ok letter old room) in
-      let plain : plainLine table line ≡ done line =
-      subst (λ (l : List ℕ). plainLine table l ≡ done l) (back .0) (itself p ok letter) in
+      ∙ subst (λ (l : List ℕ). firstRefusal (evaluateChecks table l old) ≡ 0) (back .0) (passes p ok old whole room) in
+      let plain : plainLine (tableOf table) line ≡ done line =
+      subst (λ (l : List ℕ). plainLine (tableOf table) l ≡ done l) (back .0) (itself p ok) in
       let out : (lent ≡ line ++ drop (length line) old) × (after ≡ length line) =
       handed table line old before answer lent after line meets zero plain in
       (zero, out .0, out .1)

@@ -1,28 +1,44 @@
--- Worked cases of formulas and of lines with formulas (document 02, M-107), in one table: what is run, and what it must give.
--- An outcome goes through the definitions that the contract cites. The proof stands in proofs/Cases.antt.
+-- Worked cases of formulas and of lines with formulas (document 02, M-107), also under a customer's own classes (M-108), in one
+-- table: what is run, and what it must give. An outcome goes through the definitions that the contract cites. The proof stands
+-- in proofs/Cases.antt.
 -- Assumes nothing.
 use mathlib.Core.Path.{_≡_}
 use mathlib.Core.List.{List, [], _∷_, _++_, map}
-use Prim.Native.Nat.{ℕ}
+use Prim.Native.Nat.{ℕ, _*_}
 use Prim.Native.String.{String}
 use lib.Dec.{eqb}
 use lib.ListN.{replicate}
 use lib.IntN.{ℤ, pos, negsuc}
 use Rattle.outcome.specs.Answer.{firstRefusal, pick, numberOf}
 use Rattle.outcome.specs.Result.{Result, done, refused}
+use Rattle.words.specs.Words.{word}
 use Rattle.formula.specs.Reader.{valueOf}
-use Rattle.profile.specs.Rules.{classes}
+use Rattle.profile.specs.Table.{rowSize, tableSize, tableOf}
 use Rattle.profile.specs.Line.{longest}
 use Rattle.profile.specs.Bench.{bytes}
 use Rattle.evaluate.specs.Evaluate.{textIn, plainLine, evaluateChecks}
+
+-- ---- tables
+
+-- the image without rows, which means the built-in classes
+abbrev pub builtIn : List ℕ
+builtIn = replicate tableSize 0
+
+-- two rows, with a gap between: E from 200 to 300 and R from 600 to 900 volts
+abbrev pub railway : List ℕ
+railway =
+    word 2
+    ++ (word 69 ++ (word 200 ++ (word 300 ++ (word 82 ++ (word 600 ++ (word 900 ++ replicate (24 * rowSize) 0))))))
 
 -- ---- what is run
 
 pub data Run : Type 0 where
   -- a field, at 230 nominal volts
   field : String → Run
-  -- a whole input
+  -- a whole input, under the built-in classes
   line : String → Run
+  -- a whole input, under the table of an image
+  under : List ℕ → String → Run
   -- an input whose first limit is a number of so many digits
   digits : ℕ → Run
 
@@ -43,16 +59,18 @@ abbrev pub worthIn : Result ℤ → Outcome
 worthIn (done z) = worth z
 worthIn (refused r) = refuses (numberOf r)
 
-abbrev pub written : List ℕ → Outcome
-written input =
-    let number : ℕ = firstRefusal (evaluateChecks classes input (replicate longest 0)) in
-    pick (eqb number 0) (writesBytes (textIn (plainLine classes input))) (answers number)
+-- an input under the table of an image
+abbrev pub written : List ℕ → List ℕ → Outcome
+written table input =
+    let number : ℕ = firstRefusal (evaluateChecks table input (replicate longest 0)) in
+    pick (eqb number 0) (writesBytes (textIn (plainLine (tableOf table) input))) (answers number)
 
 abbrev pub outcome : Run → Outcome
 outcome (field text) = worthIn (valueOf 230 (bytes text))
-outcome (line text) = written (bytes text)
+outcome (line text) = written builtIn (bytes text)
+outcome (under table text) = written table (bytes text)
 outcome (digits n) =
-    written (bytes "GP1,XA,B,14,230,50," ++ (replicate n 49 ++ bytes ",100,800,1500,1500,100,-2500,100\n"))
+    written builtIn (bytes "GP1,XA,B,14,230,50," ++ (replicate n 49 ++ bytes ",100,800,1500,1500,100,-2500,100\n"))
 
 -- ---- the table
 
@@ -155,8 +173,21 @@ lineCases =
     ∷ digits 3 gives answers 5
     ∷ []
 
+-- under two rows: the letter of the volts, a letter of the built-in classes, volts in the gap, the other row; and an image that
+-- lacks a byte
+abbrev pub tableCases : List Case
+tableCases =
+    under railway "GP1,XA,E,14,230,50,(N+23)*1000/N+50,100,800,1500,1500,100,-2500,100\n"
+    gives writes "GP1,XA,E,14,230,50,1150,100,800,1500,1500,100,-2500,100\n"
+    ∷ under railway "GP1,XA,B,14,230,50,1150,100,800,1500,1500,100,-2500,100\n" gives answers 5
+    ∷ under railway "GP1,XA,E,14,400,50,1/0,100,800,1500,1500,100,-2500,100\n" gives answers 5
+    ∷ under railway "GP1,XA,R,14,750,50,N+400,100,800,1500,1500,100,-2500,100\n"
+    gives writes "GP1,XA,R,14,750,50,1150,100,800,1500,1500,100,-2500,100\n"
+    ∷ under (replicate 315 0) "GP1,XA,B,14,230,50,1150,100,800,1500,1500,100,-2500,100\n" gives answers 1
+    ∷ []
+
 abbrev pub cases : List Case
-cases = fieldCases ++ lineCases
+cases = fieldCases ++ (lineCases ++ tableCases)
 
 abbrev pub Cases : Type 0
 Cases = map (λ (c : Case). outcome (c .run)) cases ≡ map (λ (c : Case). c .gives) cases

@@ -1,4 +1,5 @@
--- Evaluating a line (document 02, M-107): a line whose limits are formulas gives the plain line. Under a class table.
+-- Evaluating a line (document 02, M-107): a line whose limits are formulas gives the plain line. Under the class table that
+-- an image means (M-108).
 -- Assumes nothing.
 use mathlib.Core.Bool.{Bool, true, false}
 use mathlib.Core.List.{List, [], _∷_, _++_}
@@ -12,6 +13,7 @@ use Rattle.decimal.specs.Decimal.{decimal}
 use Rattle.formula.specs.Reader.{valueOf}
 use Rattle.profile.specs.declared.Profile.{Profile}
 use Rattle.profile.specs.Rules.{Class, _to_, inOneOf}
+use Rattle.profile.specs.Table.{tableSize, tableOf}
 use Rattle.profile.specs.Line.{comma, minus, lineFeed, longest, readLine}
 
 -- the greatest length of an input
@@ -110,15 +112,16 @@ abbrev pub plainChecks : List Class → Result (List ℕ) → List Check
 plainChecks table plain = refusalIn plain ++ finishedChecks table (textIn plain)
 
 -- the sizes; the closing LF; all that is not a limit; the formulas; the finished line
-abbrev pub evaluateChecks : List Class → List ℕ → List ℕ → List Check
+abbrev pub evaluateChecks : List ℕ → List ℕ → List ℕ → List Check
 evaluateChecks table input lent =
-    bad-size unless leb (length input) longestInput
+    bad-size unless eqb (length table) tableSize
+    ∷ bad-size unless leb (length input) longestInput
     ∷ bad-size unless eqb (length lent) longest
     ∷ bad-profile unless isClosed input
-    ∷ bad-profile unless isRead (frame table input)
-    ∷ plainChecks table (plainLine table input)
+    ∷ bad-profile unless isRead (frame (tableOf table) input)
+    ∷ plainChecks (tableOf table) (plainLine (tableOf table) input)
 
 -- what `evaluate_line` promises: the plain line at the front of the lent bytes
-abbrev pub EvaluatesLine : List Class → List ℕ → List ℕ → ℕ → ℕ → List ℕ → ℕ → Type 0
+abbrev pub EvaluatesLine : List ℕ → List ℕ → List ℕ → ℕ → ℕ → List ℕ → ℕ → Type 0
 EvaluatesLine table input old before number lent after =
-    AnswersFront (evaluateChecks table input old) (textIn (plainLine table input)) old before number lent after
+    AnswersFront (evaluateChecks table input old) (textIn (plainLine (tableOf table) input)) old before number lent after

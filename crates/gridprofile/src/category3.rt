@@ -5,8 +5,7 @@ ghost use Rattle.parameters.specs.Categories.{category3 as p};
 use profile::Profile;
 ghost use Rattle.scheme.specs.Entries.{SamplesMatrix, SamplesExponents, SamplesMaskValues, SamplesFirstChallenges};
 ghost use Rattle.scheme.specs.Entries.{SamplesSecondChallenge, MakesKey, Signs, Verifies, VerifiesRound};
-ghost use Rattle.profile.specs.Rules.{classes};
-ghost use Rattle.package.specs.Entries.{MakesPackage, MakesFromLine, Loads};
+ghost use Rattle.package.specs.Entries.{MakesPackage, MakesFromLine, LoadsByStore};
 
 // Lent scratch: V with the rest of its last group, the seeds of all rounds, what is kept of them.
 const DRAWN_MATRIX: usize = (P.n - P.k) * P.k + 8;
@@ -149,6 +148,7 @@ pub extern "C" fn gridprofile_category3_verify_round(
 // The package of the profile that a line means, and its length.
 #[no_mangle]
 pub extern "C" fn gridprofile_category3_make_package(
+    table: &[u8],
     private: &[u8],
     master: &[u8],
     salt: &[u8],
@@ -157,8 +157,8 @@ pub extern "C" fn gridprofile_category3_make_package(
     length: &mut usize,
 ) -> u8
     ensures { λ r.
-        ⌜ MakesFromLine p classes (now (private .entry)) (now (master .entry)) (now (salt .entry)) (now (line .entry))
-        (now (out .entry)) (now (length .entry)) r (now (out .exit)) (now (length .exit)) ⌝ }
+        ⌜ MakesFromLine p (now (table .entry)) (now (private .entry)) (now (master .entry)) (now (salt .entry))
+        (now (line .entry)) (now (out .entry)) (now (length .entry)) r (now (out .exit)) (now (length .exit)) ⌝ }
 {
     let mut block = [0u8; P.matrix];
     let mut vs = [0u8; DRAWN_MATRIX];
@@ -166,6 +166,7 @@ pub extern "C" fn gridprofile_category3_make_package(
     let mut states = [0u8; STATES];
     package::make::make_from_line(
         P,
+        table,
         private,
         master,
         salt,
@@ -190,7 +191,7 @@ pub extern "C" fn gridprofile_category3_load(
     hertz: u32,
 ) -> u8
     ensures { λ r.
-        ⌜ Loads p classes (now (key .entry)) (now (sealed .entry)) (now (country .entry)) class hertz
+        ⌜ LoadsByStore p (now (key .entry)) (now (sealed .entry)) (now (country .entry)) class hertz
         (now (store .entry)) r (now (store .exit)) ⌝ }
 {
     let mut block = [0u8; P.matrix];
@@ -210,6 +211,7 @@ pub extern "C" fn gridprofile_category3_load(
 
 // The package of a profile, and its length, for callers that hold one; C does not see it.
 pub fn make_package(
+    table: &[u8],
     private: &[u8],
     master: &[u8],
     salt: &[u8],
@@ -218,8 +220,8 @@ pub fn make_package(
     length: &mut usize,
 ) -> u8
     ensures { λ r.
-        ⌜ MakesPackage p classes (now (private .entry)) (now (master .entry)) (now (salt .entry)) profile
-        (now (out .entry)) (now (length .entry)) r (now (out .exit)) (now (length .exit)) ⌝ }
+        ⌜ MakesPackage p (now (table .entry)) (now (private .entry)) (now (master .entry)) (now (salt .entry))
+        profile (now (out .entry)) (now (length .entry)) r (now (out .exit)) (now (length .exit)) ⌝ }
 {
     let mut block = [0u8; P.matrix];
     let mut vs = [0u8; DRAWN_MATRIX];
@@ -227,6 +229,7 @@ pub fn make_package(
     let mut states = [0u8; STATES];
     package::make::make_package(
         P,
+        table,
         private,
         master,
         salt,

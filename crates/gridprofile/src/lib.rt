@@ -6,12 +6,12 @@ pub mod category5;
 
 ghost use Rattle.shake.specs.Shake.{Hashes128, Hashes256};
 ghost use Rattle.packing.specs.Packing.{PacksValues, UnpacksValues, PacksExponents, UnpacksExponents};
-ghost use Rattle.profile.specs.Rules.{classes};
 ghost use Rattle.image.specs.Entries.{ReadsImage, WritesImage};
-ghost use Rattle.store.specs.Calls.{LooksUp};
-ghost use Rattle.nearest.specs.Nearest.{Suggests};
+ghost use Rattle.store.specs.Calls.{LooksUpByStore};
+ghost use Rattle.nearest.specs.Nearest.{SuggestsByStore};
 ghost use Rattle.preview.specs.Preview.{PreviewsTo};
 ghost use Rattle.evaluate.specs.Evaluate.{EvaluatesLine};
+ghost use Rattle.table.specs.File.{ReadsTable, LoadsTable};
 
 #[no_mangle]
 pub extern "C" fn gridprofile_shake128(input: &[u8], out: &mut [u8])
@@ -56,28 +56,39 @@ pub extern "C" fn gridprofile_unpack_exponents(packed: &[u8], exponents: &mut [u
 }
 
 #[no_mangle]
-pub extern "C" fn gridprofile_read_line(line: &[u8], profile: &mut [u8]) -> u8
-    ensures { λ r. ⌜ ReadsImage classes (now (line .entry)) (now (profile .entry)) r (now (profile .exit)) ⌝ }
+pub extern "C" fn gridprofile_read_line(table: &[u8], line: &[u8], profile: &mut [u8]) -> u8
+    ensures { λ r.
+        ⌜ ReadsImage (now (table .entry)) (now (line .entry)) (now (profile .entry)) r (now (profile .exit)) ⌝ }
 {
-    image::read_line_image(line, profile)
+    image::read_line_image(table, line, profile)
 }
 
 #[no_mangle]
-pub extern "C" fn gridprofile_write_line(profile: &[u8], out: &mut [u8], length: &mut usize) -> u8
+pub extern "C" fn gridprofile_write_line(
+    table: &[u8],
+    profile: &[u8],
+    out: &mut [u8],
+    length: &mut usize,
+) -> u8
     ensures { λ r.
-        ⌜ WritesImage classes (now (profile .entry)) (now (out .entry)) (now (length .entry)) r
+        ⌜ WritesImage (now (table .entry)) (now (profile .entry)) (now (out .entry)) (now (length .entry)) r
         (now (out .exit)) (now (length .exit)) ⌝ }
 {
-    image::write_line_image(profile, out, length)
+    image::write_line_image(table, profile, out, length)
 }
 
 #[no_mangle]
-pub extern "C" fn gridprofile_preview(input: &[u8], out: &mut [u8], length: &mut usize) -> u8
+pub extern "C" fn gridprofile_preview(
+    table: &[u8],
+    input: &[u8],
+    out: &mut [u8],
+    length: &mut usize,
+) -> u8
     ensures { λ r.
-        ⌜ PreviewsTo classes (now (input .entry)) (now (out .entry)) (now (length .entry)) r
+        ⌜ PreviewsTo (now (table .entry)) (now (input .entry)) (now (out .entry)) (now (length .entry)) r
         (now (out .exit)) (now (length .exit)) ⌝ }
 {
-    preview::preview_into(input, out, length)
+    preview::preview_into(table, input, out, length)
 }
 
 #[no_mangle]
@@ -90,8 +101,8 @@ pub extern "C" fn gridprofile_lookup(
     length: &mut usize,
 ) -> u8
     ensures { λ r.
-        ⌜ LooksUp classes (now (store .entry)) (now (country .entry)) class hertz (now (out .entry))
-        (now (length .entry)) r (now (out .exit)) (now (length .exit)) ⌝ }
+        ⌜ LooksUpByStore (now (store .entry)) (now (country .entry)) class hertz
+        (now (out .entry)) (now (length .entry)) r (now (out .exit)) (now (length .exit)) ⌝ }
 {
     store::lookup(store, country, class, hertz, out, length)
 }
@@ -106,17 +117,36 @@ pub extern "C" fn gridprofile_nearest(
     length: &mut usize,
 ) -> u8
     ensures { λ r.
-        ⌜ Suggests classes (now (store .entry)) (now (country .entry)) hertz volts (now (out .entry))
-        (now (length .entry)) r (now (out .exit)) (now (length .exit)) ⌝ }
+        ⌜ SuggestsByStore (now (store .entry)) (now (country .entry)) hertz volts
+        (now (out .entry)) (now (length .entry)) r (now (out .exit)) (now (length .exit)) ⌝ }
 {
     nearest::nearest(store, country, hertz, volts, out, length)
 }
 
 #[no_mangle]
-pub extern "C" fn gridprofile_evaluate_line(input: &[u8], out: &mut [u8], length: &mut usize) -> u8
+pub extern "C" fn gridprofile_evaluate_line(
+    table: &[u8],
+    input: &[u8],
+    out: &mut [u8],
+    length: &mut usize,
+) -> u8
     ensures { λ r.
-        ⌜ EvaluatesLine classes (now (input .entry)) (now (out .entry)) (now (length .entry)) r
+        ⌜ EvaluatesLine (now (table .entry)) (now (input .entry)) (now (out .entry)) (now (length .entry)) r
         (now (out .exit)) (now (length .exit)) ⌝ }
 {
-    evaluate::evaluate_line(input, out, length)
+    evaluate::evaluate_line(table, input, out, length)
+}
+
+#[no_mangle]
+pub extern "C" fn gridprofile_read_table(file: &[u8], table: &mut [u8]) -> u8
+    ensures { λ r. ⌜ ReadsTable (now (file .entry)) (now (table .entry)) r (now (table .exit)) ⌝ }
+{
+    table::read_table(file, table)
+}
+
+#[no_mangle]
+pub extern "C" fn gridprofile_load_table(store: &mut [u8], file: &[u8]) -> u8
+    ensures { λ r. ⌜ LoadsTable (now (file .entry)) (now (store .entry)) r (now (store .exit)) ⌝ }
+{
+    table::load_table(store, file)
 }

@@ -13,6 +13,7 @@ use Rattle.profile.specs.declared.WriteLine.{WriteLine}
 use Rattle.profile.specs.declared.WriteLine.the-variants.{Written, BadSize, BadProfile}
 use Rattle.outcome.specs.Result.{done, refused, answer, numberIn}
 use Rattle.profile.specs.Rules.{Class}
+use Rattle.profile.specs.Table.{tableSize, tableOf}
 use Rattle.profile.specs.Line.{lineOf, readLine, writeChecks, writeLine, writeAnswer, Writes}
 use Rattle.profile.proofs.RuleLaws.{done-passed}
 use Rattle.image.specs.Image.{profileSize, profileOf, imageOf}
@@ -26,22 +27,37 @@ number-answer (r unless false ∷ cs) a = refl
 
 -- ---- reading a line
 
-module _ (table : List Class) (line old : List ℕ) where
-  pub read-image-size : (length old ≡ profileSize → ⊥) → ReadsImage table line old 1 old
-  read-image-size other = record { answers = one-refused 0 (rw (ne-eqb (length old) profileSize other)) refl }
+module _ (table line old : List ℕ) where
+  pub read-table-size : (length table ≡ tableSize → ⊥) → ReadsImage table line old 1 old
+  read-table-size other = record { answers = one-refused 0 (rw (ne-eqb (length table) tableSize other)) refl }
 
-  module _ (size : length old ≡ profileSize) where
-    pub read-image-done : (p : Profile) {new : List ℕ} → done p ≡ readLine table line → new ≡ imageOf p
+  pub read-image-size : length table ≡ tableSize → (length old ≡ profileSize → ⊥) → ReadsImage table line old 1 old
+  read-image-size right other =
+      record {
+        answers = one-refused 0 (rw (eq-eqb (length table) tableSize right, ne-eqb (length old) profileSize other)) refl;
+      }
+
+  module _ (right : length table ≡ tableSize) (size : length old ≡ profileSize) where
+    pub read-image-done : (p : Profile) {new : List ℕ} → done p ≡ readLine (tableOf table) line → new ≡ imageOf p
         → ReadsImage table line old 0 new
     read-image-done p read made =
         record {
           answers =
-              record { answer = rw (eq-eqb (length old) profileSize size, ← read); content = made ∙ ap imageIn read };
+              record {
+                answer = rw (eq-eqb (length table) tableSize right, eq-eqb (length old) profileSize size, ← read);
+                content = made ∙ ap imageIn read;
+              };
         }
 
-    pub read-image-refused : (k : ℕ) → refused (refusal k) ≡ readLine table line → ReadsImage table line old (suc k) old
+    pub read-image-refused : (k : ℕ) → refused (refusal k) ≡ readLine (tableOf table) line
+        → ReadsImage table line old (suc k) old
     read-image-refused k read =
-        record { answers = one-refused k (rw (eq-eqb (length old) profileSize size, ← read)) refl }
+        record {
+          answers =
+              one-refused k
+              (rw (eq-eqb (length table) tableSize right, eq-eqb (length old) profileSize size, ← read))
+              refl;
+        }
 
 -- ---- writing a line
 
@@ -77,17 +93,25 @@ pub answers-as : {cs ds : List Check} {made old lent : List ℕ} {k : ℕ} → f
     → Answers cs made old k lent → Answers ds made old k lent
 answers-as e a = record { answer = a .answer ∙ e; content = a .content }
 
-module _ (table : List Class) (image old : List ℕ) (before : ℕ) where
-  pub write-image-size : (length image ≡ profileSize → ⊥) → WritesImage table image old before 1 old before
-  write-image-size other =
-      record { answers = one-refused 0 (rw (ne-eqb (length image) profileSize other)) refl; size = refl }
+module _ (table image old : List ℕ) (before : ℕ) where
+  pub write-table-size : (length table ≡ tableSize → ⊥) → WritesImage table image old before 1 old before
+  write-table-size other =
+      record { answers = one-refused 0 (rw (ne-eqb (length table) tableSize other)) refl; size = refl }
 
-  pub write-image-line : (p : Profile) {k after : ℕ} {new : List ℕ} → length image ≡ profileSize → p ≡ profileOf image
-      → WritesProfileLine table p old before k new after → WritesImage table image old before k new after
-  write-image-line p {k} {after} {new} size meant puts =
-      let here : WritesProfileLine table (profileOf image) old before k new after =
-      subst (λ (q : Profile). WritesProfileLine table q old before k new after) meant puts in
-      let checks : List Check = writeChecks table (profileOf image) old in
-      let same : firstRefusal checks ≡ firstRefusal (writeImageChecks table image old) =
-      rw (eq-eqb (length image) profileSize size) in
-      record { answers = answers-as same (here .answers); size = here .size }
+  module _ (right : length table ≡ tableSize) where
+    pub write-image-size : (length image ≡ profileSize → ⊥) → WritesImage table image old before 1 old before
+    write-image-size other =
+        record {
+          answers = one-refused 0 (rw (eq-eqb (length table) tableSize right, ne-eqb (length image) profileSize other)) refl;
+          size = refl;
+        }
+
+    pub write-image-line : (p : Profile) {k after : ℕ} {new : List ℕ} → length image ≡ profileSize → p ≡ profileOf image
+        → WritesProfileLine (tableOf table) p old before k new after → WritesImage table image old before k new after
+    write-image-line p {k} {after} {new} size meant puts =
+        let here : WritesProfileLine (tableOf table) (profileOf image) old before k new after =
+        subst (λ (q : Profile). WritesProfileLine (tableOf table) q old before k new after) meant puts in
+        let checks : List Check = writeChecks (tableOf table) (profileOf image) old in
+        let same : firstRefusal checks ≡ firstRefusal (writeImageChecks table image old) =
+        rw (eq-eqb (length table) tableSize right, eq-eqb (length image) profileSize size) in
+        record { answers = answers-as same (here .answers); size = here .size }

@@ -34,7 +34,8 @@ use Rattle.profile.specs.Rules.{
 use Rattle.profile.specs.Line.{lineOf}
 use Rattle.profile.proofs.RuleLaws.{and-first, and-rest, same-kinds, top, range-bounds, parts}
 use Rattle.profile.proofs.Theorems.{writes-read}
-use Rattle.words.specs.Words.{number, wordAt, Small}
+use Rattle.words.specs.Words.{wordAt, Small}
+use Rattle.words.proofs.WordLaws.{word-small}
 use Rattle.image.specs.Image.{tripOf, rateOf, profileOf, isRate, isRatePoint, TripFits, RateFits}
 use Rattle.image.specs.Theorems.{ProfileAgain, ImageFits, ValidFits, LineAgain}
 use Rattle.image.proofs.ImageLaws.{profile-again}
@@ -125,10 +126,6 @@ line-again table line p e =
 
 -- ---- images of bytes
 
--- a number of four bytes is below 2^32
-number-small : (a b c d : ℕ) → a < 256 → b < 256 → c < 256 → d < 256 → Small (number a b c d)
-number-small a b c d h i j k = omega arith
-
 -- what a limit that was read has for its number and its kind
 module _ (size : ℕ) where
   size-read : (share? above? : Bool) → sizeOf (pick share? (Share size) (Offset (not above?) size)) ≡ size
@@ -156,16 +153,15 @@ rate-read-kind image at = by-presence (eqb (wordAt image at) 0)
     by-presence false = refl
 
 module _ (image : List ℕ) (bytes : (i : ℕ) → getD image i 0 < 256) where
-  word-small : (at : ℕ) → Small (wordAt image at)
-  unfolding wordAt
-  word-small at = number-small _ _ _ _ (bytes at) (bytes (at + 1)) (bytes (at + 2)) (bytes (at + 3))
+  abbrev small : (at : ℕ) → Small (wordAt image at)
+  small at = word-small image bytes at
 
   trip-read-fits : (at : ℕ) → TripFits (tripOf image at)
   unfolding tripOf
   trip-read-fits at =
       let kind = wordAt image at in
       let size = wordAt image (at + 4) in
-      (rw (size-read size (eqb kind share) (eqb kind above)) (word-small (at + 4)), word-small (at + 8))
+      (rw (size-read size (eqb kind share) (eqb kind above)) (small (at + 4)), small (at + 8))
 
   rate-read-fits : (at : ℕ) → RateFits (rateOf image at)
   unfolding rateOf
@@ -174,7 +170,7 @@ module _ (image : List ℕ) (bytes : (i : ℕ) → getD image i 0 < 256) where
       by-presence : (absent : Bool)
           → RateFits (pick absent Absent (Present (record { limit = Rate (wordAt image (at + 4)); delay = wordAt image (at + 8) })))
       by-presence true = tt
-      by-presence false = (word-small (at + 4), word-small (at + 8))
+      by-presence false = (small (at + 4), small (at + 8))
 
 pub image-fits : ImageFits
 unfolding profileOf

@@ -1,6 +1,6 @@
 -- Laws of measurements, of which profiles count, and of what is held from slot to slot. Assumes nothing.
 use mathlib.Core.Path.{_≡_, refl, _∙_, sym, ap}
-use mathlib.Core.Bool.{Bool, true, false, _&&_, or-false}
+use mathlib.Core.Bool.{Bool, true, false, _&&_, or-false, and-assoc}
 use mathlib.Core.List.{List, [], _∷_}
 use Prim.Native.Nat.{ℕ, _+_, _≤_, _<_}
 use native.Mathlib.Omega.{arith}
@@ -23,32 +23,28 @@ use Rattle.nearest.specs.InnerSearch.{nearSlot, inSlot, better, seen}
 -- ---- what was measured
 
 module _ (m : Measured) where
-  pub measured-first : contains letters (m .country .first) ≡ false → measuredOk m ≡ false
+  pub measured-country : (contains letters (m .country .first) && contains letters (m .country .second)) ≡ false
+      → measuredOk m ≡ false
   unfolding measuredOk
-  measured-first e = and-fails (contains letters (m .country .first)) _ e
+  measured-country e =
+      sym (and-assoc (contains letters (m .country .first)) (contains letters (m .country .second)) _)
+      ∙ and-fails (contains letters (m .country .first) && contains letters (m .country .second)) _ e
 
-  module _ (first : contains letters (m .country .first) ≡ true) where
-    pub measured-second : contains letters (m .country .second) ≡ false → measuredOk m ≡ false
+  module _ (country : (contains letters (m .country .first) && contains letters (m .country .second)) ≡ true) where
+    letters-hold : measuredOk m ≡ (inOneOf nominalHertz (m .hertz) && contains measurable (m .volts))
     unfolding measuredOk
-    measured-second e =
-        and-holds (contains letters (m .country .first)) _ first
-        ∙ and-fails (contains letters (m .country .second)) _ e
+    letters-hold =
+        sym (and-assoc (contains letters (m .country .first)) (contains letters (m .country .second)) _)
+        ∙ and-holds (contains letters (m .country .first) && contains letters (m .country .second)) _ country
 
-    module _ (second : contains letters (m .country .second) ≡ true) where
-      letters-hold : measuredOk m ≡ (inOneOf nominalHertz (m .hertz) && contains measurable (m .volts))
-      unfolding measuredOk
-      letters-hold =
-          and-holds (contains letters (m .country .first)) _ first
-          ∙ and-holds (contains letters (m .country .second)) _ second
+    pub measured-hertz : inOneOf nominalHertz (m .hertz) ≡ false → measuredOk m ≡ false
+    measured-hertz e = letters-hold ∙ and-fails (inOneOf nominalHertz (m .hertz)) _ e
 
-      pub measured-hertz : inOneOf nominalHertz (m .hertz) ≡ false → measuredOk m ≡ false
-      measured-hertz e = letters-hold ∙ and-fails (inOneOf nominalHertz (m .hertz)) _ e
-
-      pub measured-volts : inOneOf nominalHertz (m .hertz) ≡ true → measuredOk m ≡ leb (m .volts) 2000
-      measured-volts e =
-          letters-hold
-          ∙ and-holds (inOneOf nominalHertz (m .hertz)) _ e
-          ∙ and-holds (leb 0 (m .volts)) _ (le-leb 0 (m .volts) (omega arith))
+    pub measured-volts : inOneOf nominalHertz (m .hertz) ≡ true → measuredOk m ≡ leb (m .volts) 2000
+    measured-volts e =
+        letters-hold
+        ∙ and-holds (inOneOf nominalHertz (m .hertz)) _ e
+        ∙ and-holds (leb 0 (m .volts)) _ (le-leb 0 (m .volts) (omega arith))
 
 -- ---- of two
 

@@ -10,7 +10,7 @@ use Rattle.outcome.specs.Answer.{not-stored, Check, pick}
 use Rattle.outcome.specs.Result.{Result, done, refused}
 use Rattle.profile.specs.declared.Profile.{Profile}
 use Rattle.profile.specs.Rules.{Class, Range, _to_, contains, inOneOf, letters, nominalHertz}
-use Rattle.store.specs.Stored.{stored}
+use Rattle.store.specs.Stored.{classesOf, stored}
 use Rattle.store.specs.Calls.{foundChecks, WritesFound}
 use Rattle.nearest.specs.declared.Measured.{Measured}
 
@@ -94,3 +94,7 @@ abbrev pub Suggests : List Class → List ℕ → List ℕ → ℕ → ℕ → L
 Suggests table image country hertz volts =
     WritesFound table image country (measuredOk (measuredOf country hertz volts))
     (nearestIn (measuredOf country hertz volts) (stored image))
+
+-- the same under the store's own classes, which is what `nearest` promises (M-108)
+abbrev pub SuggestsByStore : List ℕ → List ℕ → ℕ → ℕ → List ℕ → ℕ → ℕ → List ℕ → ℕ → Type 0
+SuggestsByStore image = Suggests (classesOf image) image

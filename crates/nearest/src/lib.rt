@@ -8,16 +8,16 @@ use outcome::BAD_SIZE;
 use outcome::NOT_STORED;
 use profile::Country;
 use profile::LONGEST;
-use profile::rules::is_letter;
+use profile::rules::country_obeys;
 use profile::rules::is_nominal_hertz;
 use search::find_nearest;
 use store::CAPACITY;
+use store::SLOTS_SIZE;
 use store::STORE_SIZE;
 use store::slots::profile_at;
 ghost use mathlib.Core.Path.{_≡_};
 ghost use lib.ListN.{length};
-ghost use Rattle.profile.specs.Rules.{classes};
-ghost use Rattle.nearest.specs.Nearest.{measuredOf, measuredOk, Suggests};
+ghost use Rattle.nearest.specs.Nearest.{measuredOf, measuredOk, SuggestsByStore};
 
 // The greatest voltage that may be measured.
 pub const MOST_VOLTS: u32 = 2000;
@@ -36,10 +36,8 @@ pub struct Measured {
 fn measured_ok(m: Measured) -> bool
     ensures { λ r. ⌜ r ≡ measuredOk m ⌝ }
 {
-    if !is_letter(m.country.first) {
-        return false;
-    }
-    if !is_letter(m.country.second) {
+    let country = m.country;
+    if !country_obeys(country) {
         return false;
     }
     if !is_nominal_hertz(m.hertz) {
@@ -74,8 +72,8 @@ pub fn nearest(
     length: &mut usize,
 ) -> u8
     ensures { λ r.
-        ⌜ Suggests classes (now (store .entry)) (now (country .entry)) hertz volts (now (out .entry))
-        (now (length .entry)) r (now (out .exit)) (now (length .exit)) ⌝ }
+        ⌜ SuggestsByStore (now (store .entry)) (now (country .entry)) hertz volts
+        (now (out .entry)) (now (length .entry)) r (now (out .exit)) (now (length .exit)) ⌝ }
 {
     if country.len() != 2 {
         return BAD_DEVICE;
@@ -94,5 +92,5 @@ pub fn nearest(
     if i >= CAPACITY {
         return NOT_STORED;
     }
-    write_profile_line(profile_at(store, i), out, length)
+    write_profile_line(&store[SLOTS_SIZE..], profile_at(store, i), out, length)
 }

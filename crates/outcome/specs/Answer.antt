@@ -51,6 +51,12 @@ bad-formula = refusal 10
 abbrev pub bad-step : Refusal
 bad-step = refusal 11
 
+abbrev pub bad-table : Refusal
+bad-table = refusal 12
+
+abbrev pub store-in-use : Refusal
+store-in-use = refusal 13
+
 abbrev pub pick {ℓ} : {A : Type ℓ} → Bool → A → A → A
 pick true a b = a
 pick false a b = b

@@ -22,3 +22,7 @@ pub const BAD_DEVICE: u8 = 10;
 pub const BAD_FORMULA: u8 = 11;
 
 pub const BAD_STEP: u8 = 12;
+
+pub const BAD_TABLE: u8 = 13;
+
+pub const STORE_IN_USE: u8 = 14;

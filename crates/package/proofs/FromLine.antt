@@ -9,7 +9,8 @@ use Rattle.outcome.specs.Result.{Result, done, refused, refusalIn}
 use Rattle.outcome.proofs.Checks.{answered, both-passed, passed-front}
 use Rattle.parameters.specs.declared.Params.{Params}
 use Rattle.profile.specs.declared.Profile.{Profile}
-use Rattle.profile.specs.Rules.{Class, valid}
+use Rattle.profile.specs.Rules.{valid}
+use Rattle.profile.specs.Table.{tableOf}
 use Rattle.profile.specs.Line.{lineOf, readLine}
 use Rattle.profile.proofs.Theorems.{writes-read}
 use Rattle.scheme.specs.Sign.{signatureSize, signChecks}
@@ -22,30 +23,30 @@ read-done (done a) e = (a, refl)
 read-done (refused (refusal k)) e = absurd (omega arith)
 
 -- what the answer 0 of making from a line says
-pub record Made (p : Params) (table : List Class) (private master salt line lent : List ℕ) (before : ℕ)
+pub record Made (p : Params) (table private master salt line lent : List ℕ) (before : ℕ)
     (sealed : List ℕ) (size : ℕ) : Type 0 where
   pub profile : Profile
-  pub read : readLine table line ≡ done profile
+  pub read : readLine (tableOf table) line ≡ done profile
   pub signed : firstRefusal (signChecks p private master salt line (signatureSize p)) ≡ 0
   pub makes : MakesPackage p table private master salt profile lent before 0 sealed size
 
-module _ (p : Params) (table : List Class) (private master salt line : List ℕ) where
+module _ (p : Params) (table private master salt line : List ℕ) where
   record Passes (lent : ℕ) : Type 0 where
     profile : Profile
-    read : readLine table line ≡ done profile
+    read : readLine (tableOf table) line ≡ done profile
     signed : firstRefusal (signChecks p private master salt line (signatureSize p)) ≡ 0
     same-checks : firstRefusal (makeChecks p table private master salt profile lent) ≡ 0
 
   passes : (lent : ℕ) → firstRefusal (makeFromLineChecks p table private master salt line lent) ≡ 0 → Passes lent
   unfolding makeFromLineChecks makeChecks
   passes lent e =
-      let sizes : List Check = makeSizes p private master salt lent in
-      let reading : List Check = refusalIn (readLine table line) in
+      let sizes : List Check = makeSizes p table private master salt lent in
+      let reading : List Check = refusalIn (readLine (tableOf table) line) in
       let all = both-passed (sizes ++ reading) (signChecks p private master salt line (signatureSize p)) e in
       let front = both-passed sizes reading (all .0) in
-      let found = read-done (readLine table line) (front .1) in
-      let back = writes-read table line (found .0) (found .1) in
-      let rule : List Check = bad-profile unless valid table (found .0) ∷ [] in
+      let found = read-done (readLine (tableOf table) line) (front .1) in
+      let back = writes-read (tableOf table) line (found .0) (found .1) in
+      let rule : List Check = bad-profile unless valid (tableOf table) (found .0) ∷ [] in
       let holds : firstRefusal rule ≡ 0 = answered rule (back .1, tt) in
       record {
         profile = found .0;
@@ -62,7 +63,7 @@ module _ (p : Params) (table : List Class) (private master salt line : List ℕ)
       → Made p table private master salt line lent before sealed size
   made {lent} makes =
       let m = passes (length lent) (sym (makes .answers .answer)) in
-      let is : lineOf (m .profile) ≡ line = writes-read table line (m .profile) (m .read) .0 in
+      let is : lineOf (m .profile) ≡ line = writes-read (tableOf table) line (m .profile) (m .read) .0 in
       record {
         profile = m .profile;
         read = m .read;

@@ -1,4 +1,4 @@
--- In an image that loads made, what is found answers as the map does: the law that lookup and nearest share. Assumes
+-- In an image that the library made, what is found answers as the map does: the law that lookup and nearest share. Assumes
 -- nothing.
 use mathlib.Core.Path.{_≡_, refl, ap}
 use mathlib.Core.Bool.{Bool}

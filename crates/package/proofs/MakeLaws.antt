@@ -18,6 +18,7 @@ use Rattle.profile.specs.declared.WriteLine.{WriteLine}
 use Rattle.profile.specs.declared.WriteLine.the-variants.{Written, BadSize, BadProfile}
 use Rattle.outcome.specs.Result.{done, refused, answer, numberIn, refusalIn}
 use Rattle.profile.specs.Rules.{Class, valid}
+use Rattle.profile.specs.Table.{tableOf}
 use Rattle.profile.specs.Line.{longest, lineOf, readLine, writeChecks, writeLine, writeAnswer, Writes}
 use Rattle.profile.proofs.RuleLaws.{done-passed, holds as holds-test}
 use Rattle.profile.proofs.Theorems.{line-lengths-hold, writes-read}
@@ -102,10 +103,10 @@ pub front-length : (n : ℕ) (bytes : List ℕ) → n ≤ length bytes → n ≡
 front-length n bytes within = sym (length-take-le n bytes within)
 
 -- sizes that are right: there is room for the longest package
-room-lent : (p : Params) (private master salt : List ℕ) (lent : ℕ)
-    → firstRefusal (makeSizes p private master salt lent) ≡ 0 → lent ≡ packageMax p
-room-lent p private master salt lent ok =
-    eqb-true lent (packageMax p) (holds-test _ (passed (makeSizes p private master salt lent) ok .1 .1 .1 .0))
+room-lent : (p : Params) (table private master salt : List ℕ) (lent : ℕ)
+    → firstRefusal (makeSizes p table private master salt lent) ≡ 0 → lent ≡ packageMax p
+room-lent p table private master salt lent ok =
+    eqb-true lent (packageMax p) (holds-test _ (passed (makeSizes p table private master salt lent) ok .1 .1 .1 .1 .0))
 
 -- ---- from a profile
 
@@ -154,14 +155,14 @@ module _ (table : List Class) (profile : Profile) (new : List ℕ) where
         ap (λ (bytes : List ℕ). take n bytes) held
         ∙ take-at (lineOf profile) (drop (length (lineOf profile)) blank) n (found .1)
 
-module _ (p : Params) (table : List Class) (private master salt : List ℕ) (profile : Profile) (old : List ℕ)
+module _ (p : Params) (table private master salt : List ℕ) (profile : Profile) (old : List ℕ)
     (before : ℕ) where
   -- sizes, rules and signing, in the order in which they refuse
   abbrev sizes : List Check
-  sizes = makeSizes p private master salt (length old)
+  sizes = makeSizes p table private master salt (length old)
 
   abbrev rules : List Check
-  rules = bad-profile unless valid table profile ∷ []
+  rules = bad-profile unless valid (tableOf table) profile ∷ []
 
   abbrev signing : List Check
   signing = signChecks p private master salt (lineOf profile) (signatureSize p)
@@ -175,37 +176,37 @@ module _ (p : Params) (table : List Class) (private master salt : List ℕ) (pro
   module _ (sized : ℕ) (tested : sized ≡ firstRefusal sizes) (none : sized ≡ 0) where
     pub front-room : (n : ℕ) (new : List ℕ) → length new ≡ longest → n ≤ length new → Room p (take n new) old
     front-room n new long within =
-        let lent = room-lent p private master salt (length old) (sym tested ∙ none) in
+        let lent = room-lent p table private master salt (length old) (sym tested ∙ none) in
         (lent, omega (arith, front-length n new within, long))
 
-    pub make-broken : (new : List ℕ) → Writes table profile blank BadProfile new
+    pub make-broken : (new : List ℕ) → Writes (tableOf table) profile blank BadProfile new
         → MakesPackage p table private master salt profile old before 5 old before
     unfolding makeChecks
     make-broken new written =
         kept (packageOf p private master salt (lineOf profile)) old before 5 (λ z. omega arith)
         (by-second sizes rules signing (sym tested ∙ none) 5 (λ z. omega arith)
-        (sym (fails bad-profile (valid table profile) [] (breaks table profile new written))))
+        (sym (fails bad-profile (valid (tableOf table) profile) [] (breaks (tableOf table) profile new written))))
 
-    pub make-sealed : (new : List ℕ) (n : ℕ) → Writes table profile blank (Written n) new → {k after : ℕ} {out : List ℕ}
-        → Seals p private master salt (take n new) old before k out after
+    pub make-sealed : (new : List ℕ) (n : ℕ) → Writes (tableOf table) profile blank (Written n) new
+        → {k after : ℕ} {out : List ℕ} → Seals p private master salt (take n new) old before k out after
         → MakesPackage p table private master salt profile old before k out after
     unfolding makeChecks
     make-sealed new n written {k} {after} {out} sealed =
         front-as {cs = signing} {ds = sizes ++ rules ++ signing}
         (by-third sizes rules signing (sym tested ∙ none)
-        (holds bad-profile (valid table profile) [] (obeyed table profile new n written)))
+        (holds bad-profile (valid (tableOf table) profile) [] (obeyed (tableOf table) profile new n written)))
         (λ _. refl)
         (subst (λ (l : List ℕ). Seals p private master salt l old before k out after)
-        (written-line table profile new n written) sealed)
+        (written-line (tableOf table) profile new n written) sealed)
 
 -- ---- from a line
 
-module _ (p : Params) (table : List Class) (private master salt line old : List ℕ) (before : ℕ) where
+module _ (p : Params) (table private master salt line old : List ℕ) (before : ℕ) where
   abbrev line-sizes : List Check
-  line-sizes = makeSizes p private master salt (length old)
+  line-sizes = makeSizes p table private master salt (length old)
 
   abbrev reading : List Check
-  reading = refusalIn (readLine table line)
+  reading = refusalIn (readLine (tableOf table) line)
 
   abbrev line-signing : List Check
   line-signing = signChecks p private master salt line (signatureSize p)
@@ -224,20 +225,20 @@ module _ (p : Params) (table : List Class) (private master salt line old : List 
         kept (packageOf p private master salt line) old before k some
         (by-second line-sizes reading line-signing (sym tested ∙ none) k some e)
 
-    pub make-line-short : refused bad-size ≡ readLine table line
+    pub make-line-short : refused bad-size ≡ readLine (tableOf table) line
         → MakesFromLine p table private master salt line old before 1 old before
     make-line-short read = refuses 1 (λ z. omega arith) (rw (← read) refl)
 
-    pub make-line-broken : refused bad-profile ≡ readLine table line
+    pub make-line-broken : refused bad-profile ≡ readLine (tableOf table) line
         → MakesFromLine p table private master salt line old before 5 old before
     make-line-broken read = refuses 5 (λ z. omega arith) (rw (← read) refl)
 
-    module _ (profile : Profile) (read : done profile ≡ readLine table line) where
+    module _ (profile : Profile) (read : done profile ≡ readLine (tableOf table) line) where
       pub read-room : Room p line old
       read-room =
-          let back = writes-read table line profile (sym read) in
-          let bounds = line-lengths-hold table profile (back .1) in
-          let lent = room-lent p private master salt (length old) (sym tested ∙ none) in
+          let back = writes-read (tableOf table) line profile (sym read) in
+          let bounds = line-lengths-hold (tableOf table) profile (back .1) in
+          let lent = room-lent p table private master salt (length old) (sym tested ∙ none) in
           (lent, omega (arith, bounds .1, ap (λ (l : List ℕ). length l) (back .0)))
 
       pub make-line-sealed : {k after : ℕ} {new : List ℕ}

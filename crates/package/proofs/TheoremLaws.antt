@@ -14,6 +14,7 @@ use Rattle.parameters.specs.declared.Params.{Params}
 use Rattle.profile.specs.declared.Profile.{Profile}
 use Rattle.outcome.specs.Result.{done, refusalIn}
 use Rattle.profile.specs.Rules.{Class, valid}
+use Rattle.profile.specs.Table.{tableOf}
 use Rattle.profile.specs.Line.{lineOf, readLine}
 use Rattle.profile.proofs.RuleLaws.{holds, inside}
 use Rattle.profile.proofs.Theorems.{line-lengths-hold, reads-written}
@@ -42,16 +43,15 @@ use Rattle.package.proofs.OpenLaws.{opened-passed}
 
 -- ---- making
 
--- answered 0, hence the profile is valid and its line is signed
-pub made-passed : (p : Params) (table : List Class) (private master salt : List ℕ) (profile : Profile) (lent : ℕ)
+-- answered 0, hence the line is signed
+pub made-signed : (p : Params) (table private master salt : List ℕ) (profile : Profile) (lent : ℕ)
     → firstRefusal (makeChecks p table private master salt profile lent) ≡ 0
-    → T (valid table profile) × (firstRefusal (signChecks p private master salt (lineOf profile) (signatureSize p)) ≡ 0)
+    → firstRefusal (signChecks p private master salt (lineOf profile) (signatureSize p)) ≡ 0
 unfolding makeChecks
-made-passed p table private master salt profile lent e =
-    let sizes : List Check = makeSizes p private master salt lent in
-    let rule : List Check = bad-profile unless valid table profile ∷ [] in
-    let all = both-passed (sizes ++ rule) (signChecks p private master salt (lineOf profile) (signatureSize p)) e in
-    (passed rule (both-passed sizes rule (all .0) .1) .0, all .1)
+made-signed p table private master salt profile lent e =
+    let sizes : List Check = makeSizes p table private master salt lent in
+    let rule : List Check = bad-profile unless valid (tableOf table) profile ∷ [] in
+    both-passed (sizes ++ rule) (signChecks p private master salt (lineOf profile) (signatureSize p)) e .1
 
 -- ---- loading
 

@@ -32,7 +32,7 @@ use Rattle.package.specs.Package.{packageOf, signatureIn, lineIn, loadCh
 use Rattle.package.specs.Entries.{MakesPackage, Loads}
 use Rattle.package.specs.Theorems.{MadeLoads, NothingElse, OthersKept, LoadReaches}
 use Rattle.package.proofs.TheoremLaws.{
-  made-passed,
+  made-signed,
   LoadPassed,
   load-passed,
   storing-put,
@@ -110,7 +110,7 @@ module _ (p : Params) (table : List Class) where
 -- ---- a made package
 
 -- what was written, up to its length, is the package
-made-whole : (p : Params) (table : List Class) (private master salt : List ℕ) (profile : Profile) (old sealed : List ℕ)
+made-whole : (p : Params) (table private master salt : List ℕ) (profile : Profile) (old sealed : List ℕ)
     (before size : ℕ)
     → MakesPackage p table private master salt profile old before 0 sealed size
     → take size sealed ≡ packageOf p private master salt (lineOf profile)
@@ -120,27 +120,27 @@ made-whole p table private master salt profile old sealed before size made =
 
 pub made-loads : (p : Params) (table : List Class) → Sound p → MadeLoads p table
 unfolding packageOf
-made-loads p table sound private master salt profile lent sealed before size country class hertz old answer new made two
-    own whole newer room loads =
+made-loads p table sound made-under private master salt profile lent sealed before size country class hertz old answer new
+    made ok two own whole newer room loads =
     let device : Device = deviceOf country class hertz in
     let sig : List ℕ = signature p private master salt (lineOf profile) in
-    let ok = made-passed p table private master salt profile (length lent) (sym (made .answers .answer)) in
-    let sized = length-signature p sound private master salt (lineOf profile) (signatureSize p) (ok .1) in
+    let signed = made-signed p made-under private master salt profile (length lent) (sym (made .answers .answer)) in
+    let sized = length-signature p sound private master salt (lineOf profile) (signatureSize p) signed in
     let written : take size sealed ≡ sig ++ lineOf profile =
-    made-whole p table private master salt profile lent sealed before size made in
+    made-whole p made-under private master salt profile lent sealed before size made in
     let its : sameKey (keyOf profile) (deviceKey device) ≡ true = rw (sym own) (same-refl (deviceKey device)) in
-    let fine : deviceOk table device ≡ true = device-of-valid table profile device (ok .0) own in
+    let fine : deviceOk table device ≡ true = device-of-valid table profile device ok own in
     let key = publicKey p private in
     let passes : firstRefusal (loadChecks p table key (take size sealed) country class hertz old) ≡ 0 =
     rw written
-    (package-loads p table key sig country class hertz profile old (ok .0) sized
-    (verifies p sound private master salt (lineOf profile) (signatureSize p) (ok .1))
+    (package-loads p table key sig country class hertz profile old ok sized
+    (verifies p sound private master salt (lineOf profile) (signatureSize p) signed)
     two fine whole
     (put-accepts device profile (stored old) its newer room)) in
     let zero : answer ≡ 0 = loads .answers ∙ passes in
     let found = loads .taken zero in
     let read : readLine table (lineIn p (take size sealed)) ≡ done profile =
-    rw (written, line-back p sig (lineOf profile) sized) (reads-written table profile (ok .0)) in
+    rw (written, line-back p sig (lineOf profile) sized) (reads-written table profile ok) in
     let this : found .0 ≡ profile = cc in
     let stores : Stores profile (stored old) (stored new) = rw this at (found .2 .stores) in
     (zero, lookup-stored table device profile (stored old) (stored new) stores fine its)

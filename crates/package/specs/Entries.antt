@@ -11,6 +11,7 @@ use Rattle.outcome.specs.Result.{done, numberIn, valuesIn}
 use Rattle.profile.specs.Rules.{Class}
 use Rattle.profile.specs.Line.{longest, lineOf, readLine}
 use Rattle.scheme.specs.Sign.{signatureSize, signChecks}
+use Rattle.store.specs.Stored.{classesOf}
 use Rattle.store.specs.Calls.{Taken}
 use Rattle.package.specs.declared.load.Opened.{Opened}
 use Rattle.package.specs.Package.{
@@ -38,12 +39,12 @@ module _ (p : Params) where
   Seals private master salt line old =
       AnswersFront (signChecks p private master salt line (signatureSize p)) (packageOf p private master salt line) old
 
-  abbrev pub MakesPackage : List Class → List ℕ → List ℕ → List ℕ → Profile → List ℕ → ℕ → ℕ → List ℕ → ℕ → Type 0
+  abbrev pub MakesPackage : List ℕ → List ℕ → List ℕ → List ℕ → Profile → List ℕ → ℕ → ℕ → List ℕ → ℕ → Type 0
   MakesPackage table private master salt profile old =
       AnswersFront (makeChecks p table private master salt profile (length old))
       (packageOf p private master salt (lineOf profile)) old
 
-  abbrev pub MakesFromLine : List Class → List ℕ → List ℕ → List ℕ → List ℕ → List ℕ → ℕ → ℕ → List ℕ → ℕ → Type 0
+  abbrev pub MakesFromLine : List ℕ → List ℕ → List ℕ → List ℕ → List ℕ → List ℕ → ℕ → ℕ → List ℕ → ℕ → Type 0
   MakesFromLine table private master salt line old =
       AnswersFront (makeFromLineChecks p table private master salt line (length old))
       (packageOf p private master salt line) old
@@ -64,3 +65,7 @@ module _ (p : Params) where
     pub taken : answer ≡ 0
         → (profile : Profile) × (readLine table (lineIn p sealed) ≡ done profile) × Taken profile old new
     pub kept : (answer ≡ 0 → ⊥) → new ≡ old
+
+  -- the same under the store's own classes, which is what loading promises (document 02, M-108)
+  abbrev pub LoadsByStore : List ℕ → List ℕ → List ℕ → ℕ → ℕ → List ℕ → ℕ → List ℕ → Type 0
+  LoadsByStore key sealed country class hertz old = Loads (classesOf old) key sealed country class hertz old

@@ -1,6 +1,6 @@
 -- A package is the signature of a line, followed by the line (document 01, "Profile line, package, shelf"): making one,
 -- opening one, and storing what was opened, each as its tests in the order in which they refuse (table "Returned" and
--- the paragraph after it).
+-- the paragraph after it). Making goes by the table whose image is lent (document 02, M-108).
 -- Assumes nothing.
 use mathlib.Core.List.{List, [], _∷_, _++_}
 use Prim.Native.Nat.{ℕ, _+_}
@@ -11,6 +11,7 @@ use Rattle.parameters.specs.declared.Params.{Params}
 use Rattle.profile.specs.declared.Profile.{Profile}
 use Rattle.outcome.specs.Result.{Result, done, refused, refusalIn}
 use Rattle.profile.specs.Rules.{_to_, contains, Class, valid}
+use Rattle.profile.specs.Table.{tableSize, tableOf}
 use Rattle.profile.specs.Line.{shortest, longest, lineOf, readLine}
 use Rattle.scheme.specs.Key.{keySize}
 use Rattle.scheme.specs.Sign.{signatureSize, signChecks, signature}
@@ -50,27 +51,28 @@ module _ (p : Params) where
   unfoldable pub packageOf : List ℕ → List ℕ → List ℕ → List ℕ → List ℕ
   packageOf private master salt line = signature p private master salt line ++ line
 
-  -- seeds, salt, and how many bytes are lent for the package
-  abbrev pub makeSizes : List ℕ → List ℕ → List ℕ → ℕ → List Check
-  makeSizes private master salt lent =
-      bad-size unless eqb (length private) (p .digest)
+  -- the table's image, seeds, salt, and how many bytes are lent for the package
+  abbrev pub makeSizes : List ℕ → List ℕ → List ℕ → List ℕ → ℕ → List Check
+  makeSizes table private master salt lent =
+      bad-size unless eqb (length table) tableSize
+      ∷ bad-size unless eqb (length private) (p .digest)
       ∷ bad-size unless eqb (length master) (p .seed)
       ∷ bad-size unless eqb (length salt) (p .digest)
       ∷ bad-size unless eqb lent packageMax
       ∷ []
 
   -- sizes; the profile's rules; then signing its line
-  unfoldable pub makeChecks : List Class → List ℕ → List ℕ → List ℕ → Profile → ℕ → List Check
+  unfoldable pub makeChecks : List ℕ → List ℕ → List ℕ → List ℕ → Profile → ℕ → List Check
   makeChecks table private master salt profile lent =
-      makeSizes private master salt lent
-      ++ (bad-profile unless valid table profile ∷ [])
+      makeSizes table private master salt lent
+      ++ (bad-profile unless valid (tableOf table) profile ∷ [])
       ++ signChecks p private master salt (lineOf profile) (signatureSize p)
 
   -- from a line's bytes: sizes; the line's size and rules, as `readLine` has them; then signing it
-  unfoldable pub makeFromLineChecks : List Class → List ℕ → List ℕ → List ℕ → List ℕ → ℕ → List Check
+  unfoldable pub makeFromLineChecks : List ℕ → List ℕ → List ℕ → List ℕ → List ℕ → ℕ → List Check
   makeFromLineChecks table private master salt line lent =
-      makeSizes private master salt lent
-      ++ refusalIn (readLine table line)
+      makeSizes table private master salt lent
+      ++ refusalIn (readLine (tableOf table) line)
       ++ signChecks p private master salt line (signatureSize p)
 
   -- ---- opening

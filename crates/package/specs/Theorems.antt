@@ -23,15 +23,16 @@ use Rattle.package.specs.Package.{signatureIn, lineIn}
 use Rattle.package.specs.Entries.{MakesPackage, Loads}
 
 module _ (p : Params) (table : List Class) where
-  -- A made package loads: where package making answered 0 for a profile, loading what it wrote under the key that the
-  -- rules give for the private seed, on a device that is set to the profile's country, class and hertz, answers 0 in
-  -- every store, reached or not, that holds no profile of the triple or one with a smaller serial, and holds the triple
-  -- or has room; and looking up the triple then gives the profile.
+  -- A made package loads: where package making answered 0 for a profile, under whatever table, loading what it wrote
+  -- under the key that the rules give for the private seed, on a device that is set to the profile's country, class and
+  -- hertz, answers 0 in every store, reached or not, under whose table the profile is valid, that holds no profile of the
+  -- triple or one with a smaller serial, and holds the triple or has room; and looking up the triple then gives the
+  -- profile.
   abbrev pub MadeLoads : Type 0
   MadeLoads =
-      (private master salt : List ℕ) (profile : Profile) (lent sealed : List ℕ) (before size : ℕ)
+      (made-under private master salt : List ℕ) (profile : Profile) (lent sealed : List ℕ) (before size : ℕ)
       (country : List ℕ) (class hertz : ℕ) (old : List ℕ) (answer : ℕ) (new : List ℕ)
-      → MakesPackage p table private master salt profile lent before 0 sealed size
+      → MakesPackage p made-under private master salt profile lent before 0 sealed size → T (valid table profile)
       → length country ≡ 2 → deviceKey (deviceOf country class hertz) ≡ keyOf profile → length old ≡ storeSize
       → newer profile (find (keyOf profile) (stored old)) ≡ true
       → (isStored (keyOf profile) (stored old) || ltb (length (stored old)) capacity) ≡ true

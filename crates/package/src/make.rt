@@ -10,7 +10,6 @@ use profile::WriteLine;
 use profile::read_line;
 use profile::write_line;
 ghost use Rattle.signer.specs.InnerScratch.{SignScratch};
-ghost use Rattle.profile.specs.Rules.{classes};
 ghost use Rattle.package.specs.Entries.{Room, Seals, MakesPackage, MakesFromLine};
 
 // Signs a line into the front of what is lent and puts the line behind the signature.
@@ -55,9 +54,10 @@ fn seal(
     0
 }
 
-// The package of a profile.
+// The package of a profile, under the classes of a table.
 pub fn make_package(
     p: Params,
+    table: &[u8],
     private: &[u8],
     master: &[u8],
     salt: &[u8],
@@ -71,15 +71,15 @@ pub fn make_package(
 ) -> u8
     requires { ⌜ SignScratch p (now block) (now vs) (now seeds) (now states) ⌝ }
     ensures { λ r.
-        ⌜ MakesPackage p classes (now (private .entry)) (now (master .entry)) (now (salt .entry)) profile
-        (now (out .entry)) (now (length .entry)) r (now (out .exit)) (now (length .exit)) ⌝ }
+        ⌜ MakesPackage p (now (table .entry)) (now (private .entry)) (now (master .entry)) (now (salt .entry))
+        profile (now (out .entry)) (now (length .entry)) r (now (out .exit)) (now (length .exit)) ⌝ }
 {
-    let refusal = sizes::check_make(p, private, master, salt, out.len());
+    let refusal = sizes::check_make(p, table, private, master, salt, out.len());
     if refusal != 0 {
         return refusal;
     }
     let mut line = [0u8; LONGEST];
-    match write_line(profile, &mut line) {
+    match write_line(table, profile, &mut line) {
         WriteLine::Written(n) => seal(
             p,
             private,
@@ -98,9 +98,10 @@ pub fn make_package(
     }
 }
 
-// The package of the profile that a line means.
+// The package of the profile that a line means, under the classes of a table.
 pub fn make_from_line(
     p: Params,
+    table: &[u8],
     private: &[u8],
     master: &[u8],
     salt: &[u8],
@@ -114,14 +115,14 @@ pub fn make_from_line(
 ) -> u8
     requires { ⌜ SignScratch p (now block) (now vs) (now seeds) (now states) ⌝ }
     ensures { λ r.
-        ⌜ MakesFromLine p classes (now (private .entry)) (now (master .entry)) (now (salt .entry)) (now (line .entry))
-        (now (out .entry)) (now (length .entry)) r (now (out .exit)) (now (length .exit)) ⌝ }
+        ⌜ MakesFromLine p (now (table .entry)) (now (private .entry)) (now (master .entry)) (now (salt .entry))
+        (now (line .entry)) (now (out .entry)) (now (length .entry)) r (now (out .exit)) (now (length .exit)) ⌝ }
 {
-    let refusal = sizes::check_make(p, private, master, salt, out.len());
+    let refusal = sizes::check_make(p, table, private, master, salt, out.len());
     if refusal != 0 {
         return refusal;
     }
-    match read_line(line) {
+    match read_line(table, line) {
         ReadLine::Read(profile) => seal(
             p,
             private,

@@ -3,17 +3,29 @@ use outcome::BAD_SIZE;
 use parameters::Params;
 use profile::LONGEST;
 use profile::SHORTEST;
+use profile::table::TABLE_SIZE;
 ghost use mathlib.Core.Path.{_≡_};
 ghost use Rattle.outcome.specs.Answer.{firstRefusal};
 ghost use Rattle.parameters.specs.Sound.{Sound};
 ghost use Rattle.package.specs.Package.{makeSizes, openSizes};
 
-// The sizes of seeds and salt, and of what is lent for a package.
-pub fn check_make(p: Params, private: &[u8], master: &[u8], salt: &[u8], lent: usize) -> u8
+// The sizes of a table's image, of seeds and salt, and of what is lent for a package.
+pub fn check_make(
+    p: Params,
+    table: &[u8],
+    private: &[u8],
+    master: &[u8],
+    salt: &[u8],
+    lent: usize,
+) -> u8
     requires { ⌜ Sound p ⌝ }
     ensures { λ r.
-        ⌜ r ≡ firstRefusal (makeSizes p (now (private .entry)) (now (master .entry)) (now (salt .entry)) lent) ⌝ }
+        ⌜ r ≡ firstRefusal (makeSizes p (now (table .entry)) (now (private .entry)) (now (master .entry))
+        (now (salt .entry)) lent) ⌝ }
 {
+    if table.len() != TABLE_SIZE {
+        return BAD_SIZE;
+    }
     if private.len() != p.digest {
         return BAD_SIZE;
     }

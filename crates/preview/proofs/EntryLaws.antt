@@ -1,18 +1,19 @@
 -- What the preview answers. Assumes nothing.
 use mathlib.Core.Path.{_≡_, refl, _∙_, sym, ap}
-use mathlib.Core.Bool.{Bool, true, false}
 use mathlib.Core.List.{List, [], _∷_, _++_, Permᴰ·symm}
 use Prim.Native.Nat.{ℕ, _*_, _≤_, _<_}
 use native.Mathlib.Omega.{arith}
 use lib.Dec.{T, eqb}
 use lib.ListN.{length, drop, length-append}
 use borrow.Author.Tests.{eq-eqb, ne-eqb, lt-ltb, le-ltb}
-use Rattle.outcome.specs.Answer.{pick, bad-size}
+use Rattle.outcome.specs.Answer.{pick}
 use Rattle.decimal.specs.Decimal.{Room, Appended}
 use Rattle.decimal.proofs.Stores.{appended-as, front-length, front}
 use Rattle.profile.specs.declared.Profile.{Profile}
 use Rattle.profile.specs.Rules.{Class, valid}
+use Rattle.profile.specs.Table.{tableSize, tableOf}
 use Rattle.profile.specs.Line.{readLine}
+use Rattle.profile.proofs.RuleLaws.{done-passed}
 use Rattle.profile.proofs.Theorems.{writes-read}
 use Rattle.outcome.specs.Result.{Result, done, refused}
 use Rattle.store.specs.Stored.{capacity, insert}
@@ -40,6 +41,7 @@ use Rattle.preview.specs.Preview.{
   RowsAscend,
   SameListing,
   lentSize,
+  previewChecks,
   previewAnswer,
   Previews,
 }
@@ -143,34 +145,43 @@ same-listing table a b short brief perm =
 
 -- ---- the answer
 
-module _ (table : List Class) (input old : List ℕ) where
-  pub previews-refused : (length old ≡ lentSize → ⊥) → Previews table input old BadSize old
-  previews-refused size =
-      let other = ne-eqb (length old) lentSize size in
-      record { answered = rw other; content = refl }
+module _ (table input old : List ℕ) where
+  pub table-refused : (length table ≡ tableSize → ⊥) → Previews table input old BadSize old
+  table-refused other = record { answered = rw (ne-eqb (length table) tableSize other); content = refl }
 
-  pub previews-done : {n : ℕ} {text new : List ℕ} → length old ≡ lentSize → text ≡ listing table input
-      → Appended old 0 text new n → n ≤ lentSize → Previews table input old (Length n) new
-  previews-done {n} {text} {new} size its put most =
-      let right = eq-eqb (length old) lentSize size in
-      let whole : Appended old 0 (listing table input) new n = appended-as its put in
-      let room : Room old 0 (listing table input) = record { room = omega (arith, whole .place) } in
-      record { answered = rw right (ap done (front-length whole room)); content = front whole room }
+  module _ (right : length table ≡ tableSize) where
+    pub lent-refused : (length old ≡ lentSize → ⊥) → Previews table input old BadSize old
+    lent-refused other =
+        record {
+          answered = rw (eq-eqb (length table) tableSize right, ne-eqb (length old) lentSize other);
+          content = refl;
+        }
 
--- the length that is answered lies within the lent bytes
-pub length-within : {table : List Class} {input old lent : List ℕ} {r : Previewed} {n : ℕ}
-    → Previews table input old r lent → r ≡ Length n → n ≤ length lent
-length-within {table} {input} {old} {lent} {r} {n} previews answer =
-    go (eqb (length old) lentSize) (sym (ap previewAnswer answer) ∙ previews .answered)
-  where
-    text : List ℕ
-    text = listing table input
+    pub previews-done : {n : ℕ} {text new : List ℕ} → length old ≡ lentSize → text ≡ listing (tableOf table) input
+        → Appended old 0 text new n → n ≤ lentSize → Previews table input old (Length n) new
+    previews-done {n} {text} {new} size its put most =
+        let whole : Appended old 0 (listing (tableOf table) input) new n = appended-as its put in
+        let room : Room old 0 (listing (tableOf table) input) = record { room = omega (arith, whole .place) } in
+        record {
+          answered =
+              rw (eq-eqb (length table) tableSize right, eq-eqb (length old) lentSize size)
+              (ap done (front-length whole room));
+          content = front whole room;
+        }
 
-    whole : lent ≡ text ++ drop (length text) old
-    whole = previews .content ∙ rw answer
+-- the length that is answered is that of the listing
+pub length-listed : {table input old lent : List ℕ} {r : Previewed} {n : ℕ} → Previews table input old r lent
+    → r ≡ Length n → n ≡ length (listing (tableOf table) input)
+length-listed {table} {input} {old} {lent} {r} {n} previews is =
+    sym
+    (done-passed (previewChecks table old) (length (listing (tableOf table) input)) n
+    (sym (previews .answered) ∙ ap previewAnswer is)
+    .1)
 
-    go : (right : Bool) → done n ≡ pick right (done (length text)) (refused bad-size) → n ≤ length lent
-    go true e =
-        let same : n ≡ length text = cc in
-        omega (arith, ap length whole, length-append text (drop (length text) old))
-    go false e = let z : _≡_ {A = ℕ} 0 1 = cc in absurd (omega arith)
+-- and lies within the lent bytes
+pub length-within : {table input old lent : List ℕ} {r : Previewed} {n : ℕ} → Previews table input old r lent
+    → r ≡ Length n → n ≤ length lent
+length-within {table} {input} {old} {lent} {r} {n} previews is =
+    let text : List ℕ = listing (tableOf table) input in
+    let whole : lent ≡ text ++ drop (length text) old = previews .content ∙ rw is in
+    omega (arith, length-listed previews is, ap length whole, length-append text (drop (length text) old))

@@ -1,50 +1,34 @@
--- Each case of the preview's answer, over bytes. Assumes nothing.
-use mathlib.Core.Path.{_≡_, _∙_, refl, sym, ap}
-use mathlib.Core.Bool.{Bool, true, false}
+-- Each case of the preview's answer, as a number and a length. Assumes nothing.
+use mathlib.Core.Path.{_≡_, refl, _∙_, ap, subst}
 use mathlib.Core.List.{List, _++_}
 use Prim.Native.Nat.{ℕ}
-use native.Mathlib.Omega.{arith}
-use lib.Dec.{eqb}
 use lib.ListN.{length, drop}
-use Rattle.outcome.specs.Answer.{bad-size, pick}
-use Rattle.outcome.specs.Result.{done, refused, answer}
-use Rattle.profile.specs.Rules.{Class}
+use Rattle.outcome.specs.Answer.{Answers}
+use Rattle.outcome.specs.Result.{numberIn}
+use Rattle.profile.specs.Table.{tableOf}
+use Rattle.image.proofs.EntryLaws.{number-answer}
 use Rattle.preview.specs.declared.Previewed.{Previewed}
 use Rattle.preview.specs.declared.Previewed.the-variants.{Length, BadSize}
-use Rattle.preview.specs.Preview.{listing, lentSize, previewAnswer, Previews, PreviewsTo}
+use Rattle.preview.specs.Preview.{listing, previewChecks, previewAnswer, Previews, PreviewsTo}
+use Rattle.preview.proofs.EntryLaws.{length-listed}
 
-module _ {table : List Class} {input old lent : List ℕ} {r : Previewed}
-    (previews : Previews table input old r lent) where
-  -- the test of the size decides the answer
-  decided : (right : Bool) → eqb (length old) lentSize ≡ right
-      → previewAnswer r ≡ pick right (done (length (listing table input))) (refused bad-size)
-  decided right e = previews .answered ∙ rw e
+module _ {table input old lent : List ℕ} {r : Previewed} (previews : Previews table input old r lent) where
+  abbrev text : List ℕ
+  text = listing (tableOf table) input
+
+  -- the number of the answer is that of the first check that fails
+  abbrev Numbered : Previewed → Type 0
+  Numbered q = Answers (previewChecks table old) (text ++ drop (length text) old) old (numberIn (previewAnswer q)) lent
+
+  numbered : Numbered r
+  numbered =
+      record {
+        answer = ap numberIn (previews .answered) ∙ number-answer (previewChecks table old) (length text);
+        content = previews .content;
+      }
 
   pub listed : {n : ℕ} (before : ℕ) → r ≡ Length n → PreviewsTo table input old before 0 lent n
-  listed {n} before is = go (eqb (length old) lentSize) refl
-    where
-      whole : lent ≡ listing table input ++ drop (length (listing table input)) old
-      whole = previews .content ∙ rw is
-
-      go : (right : Bool) → eqb (length old) lentSize ≡ right → PreviewsTo table input old before 0 lent n
-      go true e =
-          let length-is : done n ≡ done (length (listing table input)) = sym (ap previewAnswer is) ∙ decided true e in
-          record { answers = record { answer = sym (rw e); content = whole }; size = cc }
-      go false e =
-          let never : done n ≡ refused bad-size = sym (ap previewAnswer is) ∙ decided false e in
-          let z : _≡_ {A = ℕ} 0 1 = cc in
-          absurd (omega arith)
+  listed before is = record { answers = subst Numbered is numbered; size = length-listed previews is }
 
   pub unlisted : (before : ℕ) → r ≡ BadSize → PreviewsTo table input old before 1 lent before
-  unlisted before is = go (eqb (length old) lentSize) refl
-    where
-      kept : lent ≡ old
-      kept = previews .content ∙ rw is
-
-      go : (right : Bool) → eqb (length old) lentSize ≡ right → PreviewsTo table input old before 1 lent before
-      go true e =
-          let never : refused bad-size ≡ done (length (listing table input)) =
-          sym (ap previewAnswer is) ∙ decided true e in
-          let z : _≡_ {A = ℕ} 0 1 = cc in
-          absurd (omega arith)
-      go false e = record { answers = record { answer = sym (rw e); content = kept }; size = refl }
+  unlisted before is = record { answers = subst Numbered is numbered; size = refl }

@@ -1,5 +1,5 @@
 -- What a device would hold, listed before anything is signed (document 01, "Profile line, package, shelf", the preview
--- program; document 02, M-104, for the hertz, and M-106, for the order of the rows).
+-- program; document 02, M-104, for the hertz, M-106, for the order of the rows, and M-108, for the class table).
 -- Assumes nothing.
 use mathlib.Core.Path.{_≡_}
 use mathlib.Core.List.{List, [], _∷_, _++_}
@@ -11,6 +11,7 @@ use Rattle.decimal.specs.Decimal.{decimal}
 use Rattle.profile.specs.declared.Profile.{Profile}
 use Rattle.outcome.specs.Result.{Result, done, refused, answer, numberIn}
 use Rattle.profile.specs.Rules.{Class}
+use Rattle.profile.specs.Table.{tableSize, tableOf}
 use Rattle.profile.specs.Line.{comma, lineFeed, readLine}
 use Rattle.store.specs.declared.Device.{Device}
 use Rattle.store.specs.Stored.{capacity, Distinct}
@@ -128,8 +129,9 @@ SameListing table =
 abbrev pub lentSize : ℕ
 lentSize = 331
 
-abbrev pub previewChecks : List ℕ → List Check
-previewChecks lent = bad-size unless eqb (length lent) lentSize ∷ []
+-- the sizes of the table's image and of what is lent
+abbrev pub previewChecks : List ℕ → List ℕ → List Check
+previewChecks table lent = bad-size unless eqb (length table) tableSize ∷ bad-size unless eqb (length lent) lentSize ∷ []
 
 -- what each case of `preview`'s answer means
 abbrev pub previewAnswer : Previewed → Result ℕ
@@ -138,11 +140,12 @@ previewAnswer BadSize = refused bad-size
 
 -- The answer is the length of the listing, which stands at the front of the lent bytes. Past it they are as they were,
 -- and after a refusal all of them are.
-pub record Previews (table : List Class) (input old : List ℕ) (r : Previewed) (lent : List ℕ) : Type 0 where
-  pub answered : previewAnswer r ≡ answer (previewChecks old) (length (listing table input))
+pub record Previews (table input old : List ℕ) (r : Previewed) (lent : List ℕ) : Type 0 where
+  pub answered : previewAnswer r ≡ answer (previewChecks table old) (length (listing (tableOf table) input))
   pub content : lent
-      ≡ pick (eqb (numberIn (previewAnswer r)) 0) (listing table input ++ drop (length (listing table input)) old) old
+      ≡ pick (eqb (numberIn (previewAnswer r)) 0)
+      (listing (tableOf table) input ++ drop (length (listing (tableOf table) input)) old) old
 
 -- the same with a number for an answer, and the length in a number that is lent
-abbrev pub PreviewsTo : List Class → List ℕ → List ℕ → ℕ → ℕ → List ℕ → ℕ → Type 0
-PreviewsTo table input old = AnswersFront (previewChecks old) (listing table input) old
+abbrev pub PreviewsTo : List ℕ → List ℕ → List ℕ → ℕ → ℕ → List ℕ → ℕ → Type 0
+PreviewsTo table input old = AnswersFront (previewChecks table old) (listing (tableOf table) input) old

@@ -6,6 +6,7 @@ use outcome::BAD_SIZE;
 use profile::Profile;
 use profile::ReadLine;
 use profile::read_line;
+use profile::table::TABLE_SIZE;
 use store::CAPACITY;
 use store::Device;
 use store::STORE_SIZE;
@@ -17,7 +18,8 @@ ghost use lib.Dec.{T};
 ghost use lib.ListN.{length};
 ghost use Rattle.decimal.specs.Decimal.{Room, Appended};
 ghost use Rattle.outcome.specs.Result.{done};
-ghost use Rattle.profile.specs.Rules.{classes, valid};
+ghost use Rattle.profile.specs.Rules.{valid};
+ghost use Rattle.profile.specs.Table.{tableOf};
 ghost use Rattle.profile.specs.Line.{readLine};
 ghost use Rattle.store.specs.Stored.{storeSize, stored};
 ghost use Rattle.store.specs.Reached.{Run};
@@ -31,7 +33,8 @@ pub const LENT_SIZE: usize = 331;
 // A longer input is not looked at.
 pub const LONGEST_INPUT: usize = 65536;
 
-// The listing is written, and is this long; or another number of bytes is lent than `LENT_SIZE`.
+// The listing is written, and is this long; or another number of bytes is lent than `LENT_SIZE`, or the table has
+// another size.
 pub enum Previewed {
     Length(usize),
     BadSize,
@@ -53,12 +56,14 @@ fn line_end(input: &[u8], start: usize) -> usize
     start
 }
 
-// Stores a valid profile as a device of its own country, class and hertz does.
-fn hold(store: &mut [u8], profile: Profile)
+// Stores a valid profile as a device of its own country, class and hertz does, under the classes of a table. What is
+// stored does not depend on the table of the local store.
+fn hold(table: &[u8], store: &mut [u8], profile: Profile)
     requires { ⌜ length (now store) ≡ storeSize ⌝ }
-    requires { ⌜ T (valid classes profile) ⌝ }
+    requires { ⌜ T (valid (tableOf (now table)) profile) ⌝ }
     ensures { λ r.
-        ⌜ Run classes (stored (now (store .entry))) (callsOf (done profile)) (stored (now (store .exit))) ⌝ }
+        ⌜ Run (tableOf (now (table .entry))) (stored (now (store .entry))) (callsOf (done profile))
+        (stored (now (store .exit))) ⌝ }
 {
     let country = profile.country;
     let class = profile.class;
@@ -71,30 +76,30 @@ fn hold(store: &mut [u8], profile: Profile)
 }
 
 // A line that is refused changes nothing.
-fn hold_line(store: &mut [u8], line: &[u8])
+fn hold_line(table: &[u8], store: &mut [u8], line: &[u8])
     requires { ⌜ length (now store) ≡ storeSize ⌝ }
     ensures { λ r.
-        ⌜ Run classes (stored (now (store .entry))) (callsOf (readLine classes (now (line .entry))))
-        (stored (now (store .exit))) ⌝ }
+        ⌜ Run (tableOf (now (table .entry))) (stored (now (store .entry)))
+        (callsOf (readLine (tableOf (now (table .entry))) (now (line .entry)))) (stored (now (store .exit))) ⌝ }
 {
-    match read_line(line) {
-        ReadLine::Read(p) => hold(store, p),
+    match read_line(table, line) {
+        ReadLine::Read(p) => hold(table, store, p),
         ReadLine::BadSize => {}
         ReadLine::BadLine => {}
     }
 }
 
 // Stores the profiles of all lines of the input, in their order.
-fn hold_lines(store: &mut [u8], input: &[u8])
+fn hold_lines(table: &[u8], store: &mut [u8], input: &[u8])
     requires { ⌜ length (now store) ≡ storeSize ⌝ }
     ensures { λ r.
-        ⌜ Run classes (stored (now (store .entry))) (callsIn classes (cut (now (input .entry))))
-        (stored (now (store .exit))) ⌝ }
+        ⌜ Run (tableOf (now (table .entry))) (stored (now (store .entry)))
+        (callsIn (tableOf (now (table .entry))) (cut (now (input .entry)))) (stored (now (store .exit))) ⌝ }
 {
     let mut at = 0;
     let mut end = line_end(input, 0);
     while at < end {
-        hold_line(store, &input[at..end]);
+        hold_line(table, store, &input[at..end]);
         at = end;
         end = line_end(input, at);
     }
@@ -166,9 +171,13 @@ fn append_rows(store: &[u8], out: &mut [u8], at: usize) -> usize
 }
 
 // Writes the listing at the front of the lent bytes. The store that the lines fill is a local one, empty at first.
-pub fn preview(input: &[u8], out: &mut [u8]) -> Previewed
-    ensures { λ r. ⌜ Previews classes (now (input .entry)) (now (out .entry)) r (now (out .exit)) ⌝ }
+pub fn preview(table: &[u8], input: &[u8], out: &mut [u8]) -> Previewed
+    ensures { λ r.
+        ⌜ Previews (now (table .entry)) (now (input .entry)) (now (out .entry)) r (now (out .exit)) ⌝ }
 {
+    if table.len() != TABLE_SIZE {
+        return Previewed::BadSize;
+    }
     if out.len() != LENT_SIZE {
         return Previewed::BadSize;
     }
@@ -176,18 +185,18 @@ pub fn preview(input: &[u8], out: &mut [u8]) -> Previewed
         return Previewed::Length(append_text(b"too long\n", out));
     }
     let mut store = [0u8; STORE_SIZE];
-    hold_lines(&mut store, input);
+    hold_lines(table, &mut store, input);
     let at = append_text(b"COUNTRY,CLASS,HERTZ,SERIAL\n", out);
     Previewed::Length(append_rows(&store, out, at))
 }
 
 // The same with a number for an answer. The length is stored only where nothing is refused.
-pub fn preview_into(input: &[u8], out: &mut [u8], length: &mut usize) -> u8
+pub fn preview_into(table: &[u8], input: &[u8], out: &mut [u8], length: &mut usize) -> u8
     ensures { λ r.
-        ⌜ PreviewsTo classes (now (input .entry)) (now (out .entry)) (now (length .entry)) r
+        ⌜ PreviewsTo (now (table .entry)) (now (input .entry)) (now (out .entry)) (now (length .entry)) r
         (now (out .exit)) (now (length .exit)) ⌝ }
 {
-    match preview(input, out) {
+    match preview(table, input, out) {
         Previewed::Length(n) => {
             *length = n;
             0

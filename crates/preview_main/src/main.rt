@@ -3,6 +3,7 @@ use preview::LENT_SIZE;
 use preview::LONGEST_INPUT;
 use preview::Previewed;
 use preview::preview;
+use profile::table::TABLE_SIZE;
 
 fn main() {
     // One byte more than the longest input, so that a longer one is told from it.
@@ -11,7 +12,9 @@ fn main() {
     let length = io::read_full(0, &mut input);
     // As many bytes as the listing may have, so that nothing is refused.
     let mut out = [0u8; LENT_SIZE];
-    let answer = preview(&input[..length], &mut out);
+    // The table of the built-in classes.
+    let classes = [0u8; TABLE_SIZE];
+    let answer = preview(&classes, &input[..length], &mut out);
     let Previewed::Length(n) = answer else {
         return;
     };

@@ -1,4 +1,5 @@
 pub mod RuleLaws
+pub mod TableLaws
 pub mod LineLaws
 pub mod EntryLaws
 pub mod Theorems

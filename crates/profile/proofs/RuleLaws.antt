@@ -127,14 +127,15 @@ trips-apart p =
 pub valid-apart : (table : List Class) (p : Profile) → valid table p
     ≡ ((contains letters (p .country .first) && contains letters (p .country .second))
     && (obeys (take 3 (rules (lineKind p))) (number (p .serial) ∷ number (p .volts) ∷ number (p .hertz) ∷ [])
-    && (obeys (drop 3 (rules (lineKind p))) (drop 3 (fieldsOf p)) && isClass (classIn table (p .volts)) (p .class))))
+    && (obeys (drop 3 (rules (lineKind p))) (drop 3 (fieldsOf p))
+    && (contains letters (p .class) && isClass (classIn table (p .volts)) (p .class)))))
 unfolding fieldsOf valid
 valid-apart table p =
     let first = contains letters (p .country .first) in
     let second = contains letters (p .country .second) in
     let ratings : List Field = number (p .serial) ∷ number (p .volts) ∷ number (p .hertz) ∷ [] in
     let trips : List Field = drop 3 (fieldsOf p) in
-    let agrees = isClass (classIn table (p .volts)) (p .class) in
+    let agrees = contains letters (p .class) && isClass (classIn table (p .volts)) (p .class) in
     let first-rules : List Rule = take 3 (rules (lineKind p)) in
     let trip-rules : List Rule = drop 3 (rules (lineKind p)) in
     let apart : (obeys (rules (lineKind p)) (fieldsOf p) && agrees)
@@ -160,6 +161,7 @@ pub record Valid (table : List Class) (p : Profile) : Type 0 where
   pub first : contains letters (p .country .first) ≡ true
   pub second : contains letters (p .country .second) ≡ true
   pub fields : obeys (rules (lineKind p)) (fieldsOf p) ≡ true
+  pub letter : contains letters (p .class) ≡ true
   pub agrees : isClass (classIn table (p .volts)) (p .class) ≡ true
 
 pub parts : (table : List Class) (p : Profile) → T (valid table p) → Valid table p
@@ -168,11 +170,13 @@ parts table p t =
     let all = holds (valid table p) t in
     let but-first = and-rest (contains letters (p .country .first)) _ all in
     let but-country = and-rest (contains letters (p .country .second)) _ but-first in
+    let but-fields = and-rest (obeys (rules (lineKind p)) (fieldsOf p)) _ but-country in
     record {
       first = and-first (contains letters (p .country .first)) _ all;
       second = and-first (contains letters (p .country .second)) _ but-first;
       fields = and-first (obeys (rules (lineKind p)) (fieldsOf p)) _ but-country;
-      agrees = and-rest (obeys (rules (lineKind p)) (fieldsOf p)) _ but-country;
+      letter = and-first (contains letters (p .class)) _ but-fields;
+      agrees = and-rest (contains letters (p .class)) _ but-fields;
     }
 
 -- whose hertz are nominal ones

@@ -1,4 +1,5 @@
 pub mod Rules
+pub mod Table
 pub mod Line
 pub mod InnerPlaces
 pub mod Theorems

@@ -22,6 +22,7 @@ use Rattle.profile.specs.declared.ReadLine.the-variants as reading
 use Rattle.profile.specs.declared.WriteLine.{WriteLine}
 use Rattle.profile.specs.declared.WriteLine.the-variants as writing
 use Rattle.outcome.specs.Result.{Result, done, refused, answer, numberIn}
+use Rattle.profile.specs.Table.{tableOf}
 use Rattle.profile.specs.Rules.{_to_, contains, share, above, below, rate, Field, fieldsOf, LineKind, GP1, GP2, lineKind, Rule, rules, Class, valid}
 
 -- ---- the line of a profile
@@ -138,9 +139,13 @@ readAnswer (reading.Read p) = done p
 readAnswer reading.BadSize = refused bad-size
 readAnswer reading.BadLine = refused bad-profile
 
--- what `read_line` promises: its answer is the reading of the line
+-- an answer is the reading of the line
 abbrev pub Reads : (table : List Class) (line : List ℕ) (r : ReadLine) → Type 0
 Reads table line r = readAnswer r ≡ readLine table line
+
+-- what `read_line` promises: the reading under the table that an image means (document 02, M-108)
+abbrev pub ReadsUnder : (table line : List ℕ) (r : ReadLine) → Type 0
+ReadsUnder table = Reads (tableOf table)
 
 -- ---- writing
 
@@ -161,3 +166,7 @@ writeAnswer writing.BadProfile = refused bad-profile
 pub record Writes (table : List Class) (p : Profile) (old : List ℕ) (r : WriteLine) (lent : List ℕ) : Type 0 where
   pub answered : writeAnswer r ≡ writeLine table p old
   pub content : lent ≡ pick (eqb (numberIn (writeLine table p old)) 0) (lineOf p ++ drop (length (lineOf p)) old) old
+
+-- what `write_line` promises: the same under the table that an image means (document 02, M-108)
+abbrev pub WritesUnder : (table : List ℕ) (p : Profile) (old : List ℕ) (r : WriteLine) (lent : List ℕ) → Type 0
+WritesUnder table = Writes (tableOf table)

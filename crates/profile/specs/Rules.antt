@@ -1,5 +1,5 @@
 -- When a profile is valid: the field rules and the class table, as data (document 01, "Profile line, package, shelf"; document
--- 02, M-101, for the rate point).
+-- 02, M-101, for the rate point, and M-108, for other tables).
 -- Assumes nothing.
 use mathlib.Core.Path.{_≡_}
 use mathlib.Core.Bool.{Bool, true, false, _&&_, _||_}
@@ -186,10 +186,11 @@ isClass (refused r) letter = false
 abbrev pub letters : Range
 letters = 65 to 90
 
--- two letters, fields that obey the rules of its kind of line, and the class of the volts
+-- two letters, fields that obey the rules of its kind of line, and a letter that is the class of the volts: an image of any bytes
+-- may hold a table whose class is a comma or LF, and lines must stay lines
 unfoldable pub valid : List Class → Profile → Bool
 valid table p =
     contains letters (p .country .first)
     && (contains letters (p .country .second)
     && (obeys (rules (lineKind p)) (fieldsOf p)
-    && isClass (classIn table (p .volts)) (p .class)))
+    && (contains letters (p .class) && isClass (classIn table (p .volts)) (p .class))))

@@ -1,6 +1,8 @@
-// Grid profiles and their lines: a profile is read only from the one line that means it, and written as that line.
+// Grid profiles and their lines: a profile is read only from the one line that means it, and written as that line. Both
+// go by the classes of a table that is lent as its image.
 pub mod rules;
 mod scan;
+pub mod table;
 mod write;
 
 use buffers::equal;
@@ -9,7 +11,7 @@ use scan::is_tagged;
 use scan::scan;
 use write::append_line;
 ghost use Rattle.profile.specs.Rules.{classes, Classifies};
-ghost use Rattle.profile.specs.Line.{Reads, Writes};
+ghost use Rattle.profile.specs.Line.{ReadsUnder, WritesUnder};
 
 // The lengths of lines. A line is written into as many bytes as the longest has.
 pub const SHORTEST: usize = 42;
@@ -56,9 +58,9 @@ pub struct Profile {
     pub rate_of_change: RatePoint,
 }
 
-// The class letter of nominal volts, where they have one.
+// The class letter of nominal volts, where they have one. In a table it may be any number.
 pub enum ClassFound {
-    Letter(u8),
+    Letter(u32),
     OutOfRange,
 }
 
@@ -76,22 +78,22 @@ pub enum WriteLine {
     BadProfile,
 }
 
-// The class by nominal volts.
+// The built-in class by nominal volts; 65 is A.
 pub fn class_of(volts: u32) -> ClassFound
     ensures { λ r. ⌜ Classifies classes volts r ⌝ }
 {
     match volts {
-        100..=139 => ClassFound::Letter(b'A'),
-        140..=259 => ClassFound::Letter(b'B'),
-        260..=519 => ClassFound::Letter(b'C'),
-        520..=1000 => ClassFound::Letter(b'D'),
+        100..=139 => ClassFound::Letter(65),
+        140..=259 => ClassFound::Letter(66),
+        260..=519 => ClassFound::Letter(67),
+        520..=1000 => ClassFound::Letter(68),
         _ => ClassFound::OutOfRange,
     }
 }
 
 // Takes the numbers from where a line has them, and reads the line only if it is the line of what was found.
-pub fn read_line(line: &[u8]) -> ReadLine
-    ensures { λ r. ⌜ Reads classes (now (line .entry)) r ⌝ }
+pub fn read_line(table: &[u8], line: &[u8]) -> ReadLine
+    ensures { λ r. ⌜ ReadsUnder (now (table .entry)) (now (line .entry)) r ⌝ }
 {
     if line.len() < SHORTEST {
         return ReadLine::BadSize;
@@ -103,7 +105,7 @@ pub fn read_line(line: &[u8]) -> ReadLine
         return ReadLine::BadLine;
     }
     let p = scan(line);
-    if !valid(p) {
+    if !valid(table, p) {
         return ReadLine::BadLine;
     }
     let mut again = [0u8; LONGEST];
@@ -115,13 +117,13 @@ pub fn read_line(line: &[u8]) -> ReadLine
 }
 
 // Writes the line of a profile at the front of 84 lent bytes.
-pub fn write_line(p: Profile, out: &mut [u8]) -> WriteLine
-    ensures { λ r. ⌜ Writes classes p (now (out .entry)) r (now (out .exit)) ⌝ }
+pub fn write_line(table: &[u8], p: Profile, out: &mut [u8]) -> WriteLine
+    ensures { λ r. ⌜ WritesUnder (now (table .entry)) p (now (out .entry)) r (now (out .exit)) ⌝ }
 {
     if out.len() != LONGEST {
         return WriteLine::BadSize;
     }
-    if !valid(p) {
+    if !valid(table, p) {
         return WriteLine::BadProfile;
     }
     WriteLine::Written(append_line(p, out))

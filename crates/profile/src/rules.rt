@@ -5,7 +5,7 @@ use super::Limit;
 use super::Profile;
 use super::RatePoint;
 use super::Trip;
-use super::class_of;
+use super::table::class_in;
 ghost use mathlib.Core.Path.{_≡_};
 ghost use mathlib.Core.Bool.{_&&_};
 ghost use mathlib.Core.List.{[], _∷_};
@@ -13,8 +13,9 @@ ghost use lib.ListN.{take, drop};
 ghost use Rattle.profile.specs.Rules.{_to_, contains, inOneOf, kindOf, sizeOf, number};
 ghost use Rattle.profile.specs.Rules.{tripFields, rateFields, fieldsOf};
 ghost use Rattle.profile.specs.Rules.{GP1, kindFor, lineKind, nominalHertz, tripRules, rateRules, rules, obeys};
-ghost use Rattle.profile.specs.Rules.{classes, classIn, isClass, letters};
+ghost use Rattle.profile.specs.Rules.{classIn, isClass, letters};
 ghost use Rattle.profile.specs.Rules.{valid as validUnder};
+ghost use Rattle.profile.specs.Table.{tableOf};
 
 // What the number of a field is.
 pub const SHARE: u8 = 0;
@@ -53,7 +54,7 @@ pub fn size_of(limit: Limit) -> u32
     }
 }
 
-fn within(n: u32, low: u32, high: u32) -> bool
+pub fn within(n: u32, low: u32, high: u32) -> bool
     ensures { λ r. ⌜ r ≡ contains (low to high) n ⌝ }
 {
     low <= n && n <= high
@@ -73,7 +74,7 @@ pub fn is_nominal_hertz(hertz: u32) -> bool
 }
 
 // Both letters of a country.
-fn country_obeys(c: Country) -> bool
+pub fn country_obeys(c: Country) -> bool
     ensures { λ r. ⌜ r ≡ (contains letters (c .first) && contains letters (c .second)) ⌝ }
 {
     if !is_letter(c.first) {
@@ -143,19 +144,23 @@ fn trips_obey(p: Profile) -> bool
     rate_obeys(rate_of_change)
 }
 
-// Whether a class is that of the volts.
-fn class_agrees(volts: u32, class: u8) -> bool
-    ensures { λ r. ⌜ r ≡ isClass (classIn classes volts) class ⌝ }
+// Whether a class is a letter, and that of the volts.
+fn class_agrees(table: &[u8], volts: u32, class: u8) -> bool
+    ensures { λ r.
+        ⌜ r ≡ (contains letters class && isClass (classIn (tableOf (now (table .entry))) volts) class) ⌝ }
 {
-    match class_of(volts) {
-        ClassFound::Letter(letter) => class == letter,
+    if !is_letter(class) {
+        return false;
+    }
+    match class_in(table, volts) {
+        ClassFound::Letter(letter) => (class as u32) == letter,
         ClassFound::OutOfRange => false,
     }
 }
 
 // Whether a profile keeps every field rule, its class among them.
-pub fn valid(p: Profile) -> bool
-    ensures { λ r. ⌜ r ≡ validUnder classes p ⌝ }
+pub fn valid(table: &[u8], p: Profile) -> bool
+    ensures { λ r. ⌜ r ≡ validUnder (tableOf (now (table .entry))) p ⌝ }
 {
     let country = p.country;
     if !country_obeys(country) {
@@ -167,5 +172,5 @@ pub fn valid(p: Profile) -> bool
     if !trips_obey(p) {
         return false;
     }
-    class_agrees(p.volts, p.class)
+    class_agrees(table, p.volts, p.class)
 }

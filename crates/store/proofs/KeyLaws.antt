@@ -1,10 +1,10 @@
 -- Laws of keys and of choices between two results. Assumes nothing.
 use mathlib.Core.Path.{_≡_, refl, _∙_, sym, ap}
-use mathlib.Core.Bool.{Bool, true, false, _&&_, _||_}
+use mathlib.Core.Bool.{Bool, true, false, _&&_, _||_, and-assoc}
 use mathlib.Core.List.{List, [], _∷_}
-use Prim.Native.Nat.{ℕ, _<_}
+use Prim.Native.Nat.{ℕ}
 use native.Mathlib.Omega.{arith}
-use lib.Dec.{T, eqb, ltb, ltb→lt}
+use lib.Dec.{T, eqb}
 use borrow.Author.Tests.{eqb-true, eq-eqb}
 use Rattle.outcome.specs.Answer.{pick}
 use Rattle.outcome.specs.Result.{done}
@@ -86,55 +86,28 @@ key-apart a b differ = go (sameKey a b) refl
     go true e = absurd (differ (same-eq a b e))
     go false e = refl
 
-pub class-apart : (a b : Key) → (a .class ≡ b .class → ⊥) → sameKey a b ≡ false
-class-apart a b differ = key-apart a b (λ e. differ (ap (λ (k : Key). k .class) e))
-
 -- ---- devices
 
 module _ (table : List Class) (d : Device) where
-  pub device-first : contains letters (d .country .first) ≡ false → deviceOk table d ≡ false
-  unfolding deviceOk
-  device-first e = and-fails (contains letters (d .country .first)) _ e
-
-  pub device-second : contains letters (d .country .first) ≡ true → contains letters (d .country .second) ≡ false
+  pub device-country : (contains letters (d .country .first) && contains letters (d .country .second)) ≡ false
       → deviceOk table d ≡ false
   unfolding deviceOk
-  device-second e f =
-      and-holds (contains letters (d .country .first)) _ e ∙ and-fails (contains letters (d .country .second)) _ f
+  device-country e =
+      sym (and-assoc (contains letters (d .country .first)) (contains letters (d .country .second)) _)
+      ∙ and-fails (contains letters (d .country .first) && contains letters (d .country .second)) _ e
 
-  module _ (first : contains letters (d .country .first) ≡ true)
-      (second : contains letters (d .country .second) ≡ true) where
+  module _ (country : (contains letters (d .country .first) && contains letters (d .country .second)) ≡ true) where
     pub device-letters : deviceOk table d ≡ (hasClass table (d .class) && inOneOf nominalHertz (d .hertz))
     unfolding deviceOk
     device-letters =
-        and-holds (contains letters (d .country .first)) _ first
-        ∙ and-holds (contains letters (d .country .second)) _ second
+        sym (and-assoc (contains letters (d .country .first)) (contains letters (d .country .second)) _)
+        ∙ and-holds (contains letters (d .country .first) && contains letters (d .country .second)) _ country
 
     pub device-class : hasClass table (d .class) ≡ false → deviceOk table d ≡ false
     device-class e = device-letters ∙ and-fails (hasClass table (d .class)) _ e
 
     pub device-hertz : hasClass table (d .class) ≡ true → deviceOk table d ≡ inOneOf nominalHertz (d .hertz)
     device-hertz e = device-letters ∙ and-holds (hasClass table (d .class)) _ e
-
--- the class letters of a table of bytes are bytes
-abbrev pub Bytes : List Class → Type 0
-Bytes [] = Unit {0}
-Bytes (c ∷ cs) = T (ltb (c .letter) 256) × Bytes cs
-
-pub class-byte : (table : List Class) → Bytes table → (n : ℕ) → hasClass table n ≡ true → n < 256
-class-byte [] bytes n e = absurd (not-both false e refl)
-class-byte (c ∷ cs) bytes n e = go (eqb n (c .letter)) refl e (class-byte cs (bytes .1) n)
-  where
-    go : (b : Bool) → eqb n (c .letter) ≡ b → (b || hasClass cs n) ≡ true → (hasClass cs n ≡ true → n < 256) → n < 256
-    go true m e rest = omega (arith, eqb-true n (c .letter) m, ltb→lt (c .letter) 256 (bytes .0))
-    go false m e rest = rest e
-
-pub device-class-byte : (table : List Class) → Bytes table → (d : Device) → deviceOk table d ≡ true → d .class < 256
-unfolding deviceOk
-device-class-byte table bytes d e =
-    let first = both-true (contains letters (d .country .first)) _ e in
-    let second = both-true (contains letters (d .country .second)) _ (first .1) in
-    class-byte table bytes (d .class) (both-true (hasClass table (d .class)) _ (second .1) .0)
 
 -- ---- the device of a valid profile
 
@@ -158,11 +131,12 @@ pub device-of-valid : (table : List Class) (profile : Profile) (device : Device)
     → deviceKey device ≡ keyOf profile → deviceOk table device ≡ true
 device-of-valid table profile device ok its =
     let rules = parts table profile ok in
-    let country : device .country ≡ profile .country = ap (λ (k : Key). k .country) its in
+    let its-country : device .country ≡ profile .country = ap (λ (k : Key). k .country) its in
     let class : device .class ≡ profile .class = ap (λ (k : Key). k .class) its in
     let hertz : device .hertz ≡ profile .hertz = ap (λ (k : Key). k .hertz) its in
-    let first : contains letters (device .country .first) ≡ true = rw country (rules .first) in
-    let second : contains letters (device .country .second) ≡ true = rw country (rules .second) in
+    let first : contains letters (device .country .first) ≡ true = rw its-country (rules .first) in
+    let second : contains letters (device .country .second) ≡ true = rw its-country (rules .second) in
     let known : hasClass table (device .class) ≡ true =
     rw class (class-known table (profile .volts) (profile .class) (rules .agrees)) in
-    device-hertz table device first second known ∙ rw hertz (valid-hertz table profile ok)
+    let country = and-holds (contains letters (device .country .first)) _ first ∙ second in
+    device-hertz table device country known ∙ rw hertz (valid-hertz table profile ok)

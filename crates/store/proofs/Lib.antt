@@ -1,4 +1,5 @@
 pub mod KeyLaws
+pub mod ClassLaws
 pub mod StoredLaws
 pub mod SlotLaws
 pub mod PlaceLaws

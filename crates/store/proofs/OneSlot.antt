@@ -1,4 +1,4 @@
--- An accepted call changes the bytes of one slot. Assumes nothing.
+-- An accepted call changes the bytes of one slot, and none of the table. Assumes nothing.
 use mathlib.Core.Path.{_≡_, refl, _∙_, sym, ap}
 use mathlib.Core.Bool.{Bool, true, false}
 use mathlib.Core.List.{List, _++_, append-assoc}
@@ -11,9 +11,9 @@ use borrow.Author.Tests.{ltb-true, ltb-false}
 use Rattle.profile.specs.declared.Profile.{Profile}
 use Rattle.image.specs.Image.{profileSize, imageOf}
 use Rattle.image.proofs.ImageLaws.{image-size}
-use Rattle.store.specs.Stored.{capacity, storeSize, slotBytes, withProfile}
+use Rattle.store.specs.Stored.{capacity, slotsSize, storeSize, slotBytes, withProfile}
 use Rattle.store.specs.Calls.{Taken}
-use Rattle.store.specs.Reached.{OneSlot}
+use Rattle.store.specs.Reached.{OneSlot, TableKept}
 
 -- a part of two lists that lies within the first, and one that lies within the front of a list
 part-first : (n m : ℕ) (xs ys : List ℕ) → n + m ≤ length xs → take m (drop n (xs ++ ys)) ≡ take m (drop n xs)
@@ -45,7 +45,8 @@ module _ (p : Profile) (old : List ℕ) (size : length old ≡ storeSize) (i : �
       part-first (profileSize * j) profileSize (take at old) rest (omega (arith, front-size))
       ∙ part-front (profileSize * j) profileSize at old (omega arith) (omega arith)
 
-  behind : (j : ℕ) → i < j → slotBytes j (withProfile i p old) ≡ slotBytes j old
+  -- all that stands from a later slot on
+  behind : (j : ℕ) → i < j → drop (profileSize * j) (withProfile i p old) ≡ drop (profileSize * j) old
   behind j less =
       let rest : List ℕ = drop (at + profileSize) old in
       let both : List ℕ = take at old ++ imageOf p in
@@ -55,10 +56,9 @@ module _ (p : Profile) (old : List ℕ) (size : length old ≡ storeSize) (i : �
       let place : profileSize * j ≡ length both + k = omega (arith, width) in
       let again : at + profileSize + k ≡ profileSize * j = omega arith in
       let whole : withProfile i p old ≡ both ++ rest = sym (append-assoc (take at old) (imageOf p) rest) in
-      ap (take profileSize)
-      ((λ s. drop (place s) (whole s))
+      (λ s. drop (place s) (whole s))
       ∙ (drop-append-add both rest k
-      ∙ (drop-drop k (at + profileSize) old ∙ ap (λ (n : ℕ). drop n old) again)))
+      ∙ (drop-drop k (at + profileSize) old ∙ ap (λ (n : ℕ). drop n old) again))
 
   -- the image keeps its size
   size-kept : length (withProfile i p old) ≡ storeSize
@@ -81,4 +81,9 @@ one-slot p old new size t = (
     go j other true e = before p old size (t .slot) (t .chosen .within) j (ltb-true j (t .slot) e)
     go j other false e =
         let least = ltb-false j (t .slot) e in
-        behind p old size (t .slot) (t .chosen .within) j (omega (arith, least, other))
+        ap (take profileSize) (behind p old size (t .slot) (t .chosen .within) j (omega (arith, least, other)))
+
+pub table-kept : TableKept
+table-kept p old new size t =
+    ap (drop slotsSize) (t .written .bytes)
+    ∙ behind p old size (t .slot) (t .chosen .within) capacity (t .chosen .within)

@@ -32,6 +32,7 @@ use Rattle.store.specs.Keys.{keyOf, deviceKey, sameKey, deviceOf, device
 use Rattle.store.specs.Stored.{
   capacity,
   storeSize,
+  classesOf,
   slotOf,
   slotsOf,
   slotBytes,
@@ -100,6 +101,10 @@ abbrev pub LooksUp : List Class → List ℕ → List ℕ → ℕ → ℕ → Li
 LooksUp table image country class hertz =
     WritesFound table image country (deviceOk table (deviceOf country class hertz))
     (foundIn table image country class hertz)
+
+-- the same under the store's own classes, which is what `lookup` promises (document 02, M-108)
+abbrev pub LooksUpByStore : List ℕ → List ℕ → ℕ → ℕ → List ℕ → ℕ → ℕ → List ℕ → ℕ → Type 0
+LooksUpByStore image = LooksUp (classesOf image) image
 
 -- ---- storing
 

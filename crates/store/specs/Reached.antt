@@ -7,7 +7,7 @@ use mathlib.Core.Bool.{true}
 use mathlib.Core.List.{List, [], _∷_, _++_}
 use Prim.Native.Nat.{ℕ, _≤_, _<_}
 use lib.Dec.{T, eqb}
-use lib.ListN.{length, replicate}
+use lib.ListN.{length, replicate, drop}
 use Rattle.outcome.specs.Answer.{pick}
 use Rattle.profile.specs.declared.Profile.{Profile}
 use Rattle.outcome.specs.Result.{done}
@@ -16,7 +16,7 @@ use Rattle.store.specs.declared.Key.{Key}
 use Rattle.store.specs.declared.Device.{Device}
 use Rattle.store.specs.Keys.{keyOf, deviceKey, deviceOk}
 use Rattle.image.specs.Image.{imageOf}
-use Rattle.store.specs.Stored.{capacity, storeSize, slotBytes, stored, find, insert, Distinct}
+use Rattle.store.specs.Stored.{capacity, slotsSize, storeSize, slotBytes, stored, find, insert, Distinct}
 use Rattle.store.specs.Calls.{lookupIn, putNumber, Perm, Stores, Taken, Puts}
 
 pub record Call : Type 0 where
@@ -72,6 +72,11 @@ OneSlot =
     (p : Profile) (old new : List ℕ) → length old ≡ storeSize → (t : Taken p old new)
     → (slotBytes (t .slot) new ≡ imageOf p)
     × ((i : ℕ) → i < capacity → (i ≡ t .slot → ⊥) → slotBytes i new ≡ slotBytes i old)
+
+-- the table behind the slots is as it was, so that what is stored stays valid (document 02, M-108)
+abbrev pub TableKept : Type 0
+TableKept =
+    (p : Profile) (old new : List ℕ) → length old ≡ storeSize → Taken p old new → drop slotsSize new ≡ drop slotsSize old
 
 -- the map that the accepted calls make, in order: it depends on the calls alone
 unfoldable pub model : List Profile → List Call → List Profile

@@ -1,5 +1,6 @@
--- What a store holds: its image is sixteen slots, one after the other, and the used ones hold a list of profiles,
--- looked up by key (document 01, "Profile line, package, shelf"). Every image means a store.
+-- What a store holds: its image is sixteen slots, one after the other, and then the image of a class table (document 02,
+-- M-108). The used slots hold a list of profiles, looked up by key (document 01, "Profile line, package, shelf"). Every
+-- image means a store.
 -- Assumes nothing.
 use mathlib.Core.Path.{_≡_}
 use mathlib.Core.Bool.{Bool, true, false, _&&_, not}
@@ -10,6 +11,8 @@ use lib.ListN.{getD, take, drop, set}
 use Rattle.outcome.specs.Answer.{not-stored, pick}
 use Rattle.outcome.specs.Result.{Result, done, refused}
 use Rattle.profile.specs.declared.Profile.{Profile}
+use Rattle.profile.specs.Rules.{Class}
+use Rattle.profile.specs.Table.{tableSize, tableOf}
 use Rattle.image.specs.Image.{profileSize, profileOf, imageOf}
 use Rattle.store.specs.declared.Key.{Key}
 use Rattle.store.specs.Keys.{keyOf, sameKey}
@@ -17,8 +20,15 @@ use Rattle.store.specs.Keys.{keyOf, sameKey}
 abbrev pub capacity : ℕ
 capacity = 16
 
+abbrev pub slotsSize : ℕ
+slotsSize = capacity * profileSize
+
 abbrev pub storeSize : ℕ
-storeSize = capacity * profileSize
+storeSize = slotsSize + tableSize
+
+-- the classes that hold in a store; in an image of another size the built-in ones
+abbrev pub classesOf : List ℕ → List Class
+classesOf image = tableOf (drop slotsSize image)
 
 -- ---- slots
 

@@ -1,5 +1,5 @@
-// The accepted profiles (document 01's shelf): sixteen slots, and one profile for each country, class and hertz. A
-// store is its image, and every image is a store, also one that no run of calls makes.
+// The accepted profiles (document 01's shelf): sixteen slots, one profile for each country, class and hertz, and behind
+// them the class table. A store is its image, and every image is a store, also one that no run of calls makes.
 pub mod slots;
 
 use image::PROFILE_SIZE;
@@ -15,31 +15,40 @@ use outcome::STORE_FULL;
 use profile::Country;
 use profile::LONGEST;
 use profile::Profile;
-use profile::rules::is_letter;
+use profile::rules::country_obeys;
 use profile::rules::is_nominal_hertz;
+use profile::table::FIRST_ROW;
+use profile::table::ROW_SIZE;
+use profile::table::TABLE_SIZE;
+use profile::table::rows_used;
 use slots::find_free;
 use slots::find_key;
 use slots::profile_at;
 use slots::write_slot;
+use words::word_at;
 ghost use mathlib.Core.Path.{_≡_};
-ghost use Prim.Native.Nat.{_<_};
+ghost use Prim.Native.Nat.{_+_, _*_, _≤_};
 ghost use lib.ListN.{length};
 ghost use Rattle.profile.specs.Rules.{classes};
+ghost use Rattle.profile.specs.Table.{rowSize, rowsFrom, tableOf};
 ghost use Rattle.image.specs.Image.{profileSize};
 ghost use Rattle.store.specs.Keys.{keyOf, deviceOf, deviceKey, sameKey, hasClass, deviceOk};
-ghost use Rattle.store.specs.Stored.{slotOf};
-ghost use Rattle.store.specs.Calls.{LooksUp, Puts};
+ghost use Rattle.store.specs.Stored.{slotOf, classesOf};
+ghost use Rattle.store.specs.Calls.{LooksUpByStore, Puts};
 
 // How many profiles a store holds.
 pub const CAPACITY: usize = 16;
 
+// The length of the slots: here the table begins.
+pub const SLOTS_SIZE: usize = CAPACITY * PROFILE_SIZE;
+
 // The length of a store's image.
-pub const STORE_SIZE: usize = CAPACITY * PROFILE_SIZE;
+pub const STORE_SIZE: usize = SLOTS_SIZE + TABLE_SIZE;
 
 // What a profile is stored under.
 pub struct Key {
     pub country: Country,
-    pub class: u8,
+    pub class: u32,
     pub hertz: u32,
 }
 
@@ -56,7 +65,7 @@ fn key_of(profile: Profile) -> Key
     let country = profile.country;
     Key {
         country: country,
-        class: profile.class,
+        class: profile.class as u32,
         hertz: profile.hertz,
     }
 }
@@ -79,7 +88,7 @@ fn same_key(a: Key, b: Key) -> bool
     true
 }
 
-// A, B, C or D.
+// A, B, C or D, the built-in classes.
 fn is_class(class: u32) -> bool
     ensures { λ r. ⌜ r ≡ hasClass classes class ⌝ }
 {
@@ -98,17 +107,41 @@ fn is_class(class: u32) -> bool
     false
 }
 
-// The device is set to two letters A to Z, to a class, and to 50 or 60 hertz.
-pub fn device_ok(device: Device) -> bool
-    ensures { λ r. ⌜ r ≡ deviceOk classes device ⌝ }
+// The letter is that of a class in the first rows of a table.
+fn is_class_in_rows(table: &[u8], rows: usize, class: u32) -> bool
+    requires { ⌜ 4 + rowSize * rows ≤ length (now table) ⌝ }
+    ensures { λ r. ⌜ r ≡ hasClass (rowsFrom (now (table .entry)) 0 rows) class ⌝ }
 {
-    if !is_letter(device.country.first) {
+    let mut i: usize = 0;
+    while i < rows {
+        if word_at(table, FIRST_ROW + ROW_SIZE * i) == class {
+            return true;
+        }
+        i += 1;
+    }
+    false
+}
+
+// The letter is that of a class of the table.
+fn is_class_in(table: &[u8], class: u32) -> bool
+    ensures { λ r. ⌜ r ≡ hasClass (tableOf (now (table .entry))) class ⌝ }
+{
+    let rows = rows_used(table);
+    if rows == 0 {
+        return is_class(class);
+    }
+    is_class_in_rows(table, rows, class)
+}
+
+// The device is set to two letters A to Z, to a class of the table, and to 50 or 60 hertz.
+fn is_setting(table: &[u8], device: Device) -> bool
+    ensures { λ r. ⌜ r ≡ deviceOk (tableOf (now (table .entry))) device ⌝ }
+{
+    let country = device.country;
+    if !country_obeys(country) {
         return false;
     }
-    if !is_letter(device.country.second) {
-        return false;
-    }
-    if !is_class(device.class) {
+    if !is_class_in(table, device.class) {
         return false;
     }
     is_nominal_hertz(device.hertz)
@@ -116,25 +149,20 @@ pub fn device_ok(device: Device) -> bool
 
 // What a device's profile is stored under.
 pub fn device_key(device: Device) -> Key
-    requires { ⌜ device .class < 256 ⌝ }
     ensures { λ r. ⌜ r ≡ deviceKey device ⌝ }
 {
     let country = device.country;
-    let class = device.class;
     Key {
         country: country,
-        class: class as u8,
+        class: device.class,
         hertz: device.hertz,
     }
 }
 
-// The profile is for the device. None is where the device's class is no byte.
+// The profile is for the device.
 fn is_for(profile: Profile, device: Device) -> bool
     ensures { λ r. ⌜ r ≡ sameKey (keyOf profile) (deviceKey device) ⌝ }
 {
-    if device.class > 255 {
-        return false;
-    }
     same_key(key_of(profile), device_key(device))
 }
 
@@ -162,6 +190,17 @@ pub fn device_of(country: &[u8], class: u32, hertz: u32) -> Device
     }
 }
 
+// The device is set to two letters A to Z, to a class of the store's table, and to 50 or 60 hertz. A store of another
+// size counts as one with the built-in classes.
+pub fn device_ok(store: &[u8], device: Device) -> bool
+    ensures { λ r. ⌜ r ≡ deviceOk (classesOf (now (store .entry))) device ⌝ }
+{
+    if store.len() < SLOTS_SIZE {
+        return is_setting(&store[..0], device);
+    }
+    is_setting(&store[SLOTS_SIZE..], device)
+}
+
 // Writes the line that a store has for a country, class and hertz.
 pub fn lookup(
     store: &[u8],
@@ -172,14 +211,14 @@ pub fn lookup(
     length: &mut usize,
 ) -> u8
     ensures { λ r.
-        ⌜ LooksUp classes (now (store .entry)) (now (country .entry)) class hertz (now (out .entry))
-        (now (length .entry)) r (now (out .exit)) (now (length .exit)) ⌝ }
+        ⌜ LooksUpByStore (now (store .entry)) (now (country .entry)) class hertz
+        (now (out .entry)) (now (length .entry)) r (now (out .exit)) (now (length .exit)) ⌝ }
 {
     if country.len() != 2 {
         return BAD_DEVICE;
     }
     let device = device_of(country, class, hertz);
-    if !device_ok(device) {
+    if !device_ok(store, device) {
         return BAD_DEVICE;
     }
     if store.len() != STORE_SIZE {
@@ -192,7 +231,7 @@ pub fn lookup(
     if i >= CAPACITY {
         return NOT_STORED;
     }
-    write_profile_line(profile_at(store, i), out, length)
+    write_profile_line(&store[SLOTS_SIZE..], profile_at(store, i), out, length)
 }
 
 // Stores a profile of the device's own country, class and hertz, in place of an older one of these or in a free slot.

@@ -15,6 +15,13 @@ ghost use Rattle.image.specs.Image.{profileSize, profileOf, hasImage};
 ghost use Rattle.store.specs.Stored.{capacity, storeSize, slotOf, slotsOf, slotBytes, SlotWritten};
 ghost use Rattle.store.specs.Stored.{isFree, holding, firstSlot};
 
+// A byte as a wider number.
+fn widened(b: u8) -> u32
+    ensures { λ r. ⌜ r ≡ b ⌝ }
+{
+    b as u32
+}
+
 // The slot holds a profile of the key.
 fn slot_holds(slot: &[u8], key: Key) -> bool
     requires { ⌜ length (now slot) ≡ profileSize ⌝ }
@@ -29,7 +36,7 @@ fn slot_holds(slot: &[u8], key: Key) -> bool
     if slot[2] != key.country.second {
         return false;
     }
-    if slot[3] != key.class {
+    if widened(slot[3]) != key.class {
         return false;
     }
     if word_at(slot, 12) != key.hertz {

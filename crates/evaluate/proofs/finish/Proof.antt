@@ -7,7 +7,7 @@ use lib.ListN.{length, take}
 use lib.Seq.{length-take-le}
 use Rattle.outcome.specs.Answer.{bad-formula, bad-step}
 use Rattle.outcome.specs.Result.{done}
-use Rattle.profile.specs.Rules.{classes}
+use Rattle.profile.specs.Table.{tableOf}
 use Rattle.evaluate.specs.declared.rewrite.Rewritten.{Rewritten}
 use Rattle.evaluate.specs.Evaluate.{plainText}
 use Rattle.evaluate.specs.InnerText.{Rewrites}
@@ -31,7 +31,7 @@ abbrev call-of : tie.After-n → tie.After-rewrite
 call-of c = c .before .before .before
 
 abbrev start-of : tie.After-rewrite → tie.Start
-start-of call = call .before .before .before .before
+start-of call = call .before .before .before .before .before
 
 -- the bytes that it was stored into, and its length
 abbrev bytes-of : tie.After-n → List ℕ
@@ -79,14 +79,14 @@ returns : tie.Need-returns
 returns c =
     let known = c .before .before .before .before .before .before .before in
     let a = start-of (call-of known) .args in
-    text-finished classes (a .volts) (a .input .now) (a .out .now) (a .length .now)
+    text-finished (tableOf (a .table .now)) (a .volts) (a .input .now) (a .out .now) (a .length .now)
     (take (length-of known) (bytes-of known)) (stored known .1) (c .before .before .finish-line .ensures)
 
 returns-2 : tie.Need-returns-2
 returns-2 c =
     let call = c .before .before .before in
     let a = start-of call .args in
-    text-refused classes (a .volts) (a .input .now) (a .out .now) (a .length .now) 10
+    text-refused (tableOf (a .table .now)) (a .volts) (a .input .now) (a .out .now) (a .length .now) 10
     (sym (plain-text (a .volts) (a .input .now))
     ∙ told-refused _ (call .rewrite .result) bad-formula (rw (c .enum-told .given .1)) (call .rewrite .ensures))
 
@@ -94,7 +94,7 @@ returns-3 : tie.Need-returns-3
 returns-3 c =
     let call = c .before .before .before in
     let a = start-of call .args in
-    text-refused classes (a .volts) (a .input .now) (a .out .now) (a .length .now) 11
+    text-refused (tableOf (a .table .now)) (a .volts) (a .input .now) (a .out .now) (a .length .now) 11
     (sym (plain-text (a .volts) (a .input .now))
     ∙ told-refused _ (call .rewrite .result) bad-step (rw (c .enum-told2 .given .1)) (call .rewrite .ensures))
 

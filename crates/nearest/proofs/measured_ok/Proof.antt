@@ -1,59 +1,43 @@
--- `nearest::measured_ok` meets its contract. Assumes nothing.
-use mathlib.Core.Path.{_∙_, sym}
+-- `nearest::measured_ok` meets its contract: the first part that fails decides, and else the volts. Assumes nothing.
+use mathlib.Core.Path.{sym}
+use Rattle.profile.proofs.RuleLaws.{failing, passing}
+use Rattle.nearest.proofs.NearLaws.{measured-country, measured-hertz, measured-volts}
 use borrow.Author.Needs.{needs}
-use borrow.Author.Tests.{not-true, not-false}
-use Rattle.nearest.proofs.NearLaws.{measured-first, measured-second, measured-hertz, measured-volts}
 use Rattle.nearest.proofs.measured_ok.Statement.{statement}
 use Rattle.nearest.proofs.measured_ok.Tie as tie
 
-is-letter-requires : tie.Need-is-letter-requires
-is-letter-requires c κs = search needs
+country-obeys-requires : tie.Need-country-obeys-requires
+country-obeys-requires c κs = search needs
 
 returns : tie.Need-returns
 returns c =
-    sym (measured-first (c .before .before .args .m)
-    (sym (c .before .is-letter .ensures) ∙ not-true _ (c .if1 .taken)))
-
-is-letter-requires-2 : tie.Need-is-letter-requires-2
-is-letter-requires-2 c κs = search needs
-
-returns-2 : tie.Need-returns-2
-returns-2 c =
-    let first = c .before .before .before in
-    sym (measured-second (first .before .args .m)
-    (sym (first .is-letter .ensures) ∙ not-false _ (c .before .before .if1 .left))
-    (sym (c .before .is-letter2 .ensures) ∙ not-true _ (c .if2 .taken)))
+    sym (measured-country (c .before .before .before .args .m)
+    (failing (c .before .country-obeys .ensures) (c .if1 .taken)))
 
 is-nominal-hertz-requires : tie.Need-is-nominal-hertz-requires
 is-nominal-hertz-requires c κs = search needs
 
+returns-2 : tie.Need-returns-2
+returns-2 c =
+    let past-country = c .before .before in
+    sym (measured-hertz (past-country .before .before .before .args .m)
+    (passing (past-country .before .country-obeys .ensures) (past-country .if1 .left))
+    (failing (c .before .is-nominal-hertz .ensures) (c .if2 .taken)))
+
 returns-3 : tie.Need-returns-3
 returns-3 c =
-    let second = c .before .before in
-    let first = second .before .before .before in
-    sym (measured-hertz (first .before .args .m)
-    (sym (first .is-letter .ensures) ∙ not-false _ (second .before .before .if1 .left))
-    (sym (second .before .is-letter2 .ensures) ∙ not-false _ (second .if2 .left))
-    (sym (c .before .is-nominal-hertz .ensures) ∙ not-true _ (c .if3 .taken)))
-
-returns-4 : tie.Need-returns-4
-returns-4 c =
-    let third = c .before in
-    let second = third .before .before in
-    let first = second .before .before .before in
-    sym (measured-volts (first .before .args .m)
-    (sym (first .is-letter .ensures) ∙ not-false _ (second .before .before .if1 .left))
-    (sym (second .before .is-letter2 .ensures) ∙ not-false _ (second .if2 .left))
-    (sym (third .before .is-nominal-hertz .ensures) ∙ not-false _ (third .if3 .left)))
+    let past-hertz = c .before in
+    let past-country = past-hertz .before .before in
+    sym (measured-volts (past-country .before .before .before .args .m)
+    (passing (past-country .before .country-obeys .ensures) (past-country .if1 .left))
+    (passing (past-hertz .before .is-nominal-hertz .ensures) (past-hertz .if2 .left)))
 
 pub measured-ok-spec : {M : Type 1} → statement M
 measured-ok-spec =
     tie.close
     (tie.spec
-    is-letter-requires
+    country-obeys-requires
     returns
-    is-letter-requires-2
-    returns-2
     is-nominal-hertz-requires
-    returns-3
-    returns-4)
+    returns-2
+    returns-3)

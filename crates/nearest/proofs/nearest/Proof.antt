@@ -2,13 +2,15 @@
 -- nothing.
 use mathlib.Core.Path.{_≡_, _∙_, sym, ap}
 use mathlib.Core.Bool.{Bool, true}
+use mathlib.Core.List.{List}
 use native.Mathlib.Omega.{arith}
 use borrow.Author.Needs.{needs}
 use borrow.Author.Tests.{not-true, not-false}
 use Rattle.outcome.specs.Result.{Result, done}
 use Rattle.profile.specs.declared.Profile.{Profile}
-use Rattle.profile.specs.Rules.{classes}
-use Rattle.store.specs.Stored.{stored}
+use Rattle.profile.specs.Rules.{Class}
+use Rattle.store.specs.Stored.{classesOf, stored}
+use Rattle.store.proofs.ClassLaws.{by-store}
 use Rattle.store.proofs.FoundLaws.{no-country, none-such, no-store, no-room, nothing-found, line-found}
 use Rattle.nearest.specs.declared.Measured.{Measured}
 use Rattle.nearest.specs.Nearest.{measuredOf, measuredOk, nearestIn}
@@ -20,6 +22,10 @@ use Rattle.nearest.proofs.nearest.Tie as tie
 -- where the function begins
 abbrev entry : tie.After-measured-ok → tie.Start
 entry c = c .before .before .before .before .before .before
+
+-- the classes of the store
+abbrev classes : tie.Start → List Class
+classes c = classesOf (c .args .store .now)
 
 -- what was measured, whether it may be, and what is nearest to it
 abbrev asked : tie.Start → Measured
@@ -54,7 +60,7 @@ returns : tie.Need-returns
 returns c =
     let start = c .before .before .before .before in
     let a = start .args in
-    no-country classes (a .store .now) (a .country .now) (a .out .now) (exists start) (suggested start) (a .length .now)
+    no-country (classes start) (a .store .now) (a .country .now) (a .out .now) (exists start) (suggested start) (a .length .now)
     (c .if1 .taken)
 
 measured-of-requires : tie.Need-measured-of-requires
@@ -68,7 +74,7 @@ returns-2 c =
     let judged = c .before in
     let start = entry judged in
     let a = start .args in
-    none-such classes (a .store .now) (a .country .now) (a .out .now) (exists start) (suggested start) (a .length .now)
+    none-such (classes start) (a .store .now) (a .country .now) (a .out .now) (exists start) (suggested start) (a .length .now)
     (judged .before .before .if1 .left) (sym (answered judged) ∙ not-true _ (c .if2 .taken))
 
 returns-3 : tie.Need-returns-3
@@ -76,7 +82,7 @@ returns-3 c =
     let sound = c .before in
     let start = entry (sound .before) in
     let a = start .args in
-    no-store classes (a .store .now) (a .country .now) (a .out .now) (exists start) (suggested start) (a .length .now)
+    no-store (classes start) (a .store .now) (a .country .now) (a .out .now) (exists start) (suggested start) (a .length .now)
     (sound .before .before .before .if1 .left) (measured sound) (c .if3 .taken)
 
 returns-4 : tie.Need-returns-4
@@ -85,7 +91,7 @@ returns-4 c =
     let sound = sized .before in
     let start = entry (sound .before) in
     let a = start .args in
-    no-room classes (a .store .now) (a .country .now) (a .out .now) (exists start) (suggested start) (a .length .now)
+    no-room (classes start) (a .store .now) (a .country .now) (a .out .now) (exists start) (suggested start) (a .length .now)
     (sound .before .before .before .if1 .left) (measured sound) (sized .if3 .left) (c .if4 .taken)
 
 find-nearest-requires : tie.Need-find-nearest-requires
@@ -100,9 +106,18 @@ returns-5 c =
     let start = entry (sound .before) in
     let a = start .args in
     let none = sym (slot-nowhere _ (a .store .now) (omega arith)) ∙ found-here found in
-    nothing-found classes (a .store .now) (a .country .now) (a .out .now) (exists start) (suggested start)
+    nothing-found (classes start) (a .store .now) (a .country .now) (a .out .now) (exists start) (suggested start)
     (a .length .now) (sound .before .before .before .if1 .left) (measured sound) (room .before .if3 .left)
     (room .if4 .left) none
+
+sub-write-profile-line : tie.Need-sub-write-profile-line
+sub-write-profile-line c = search needs
+
+part-write-profile-line-start : tie.Need-part-write-profile-line-start
+part-write-profile-line-start c = search needs
+
+part-write-profile-line-end : tie.Need-part-write-profile-line-end
+part-write-profile-line-end c = search needs
 
 profile-at-requires : tie.Need-profile-at-requires
 profile-at-requires c κs = search needs
@@ -117,17 +132,17 @@ returns-6 : tie.Need-returns-6
 returns-6 c =
     let wrote = c .before .before in
     let read = wrote .before .before .before in
-    let there = read .before .if5 .left in
-    let found = read .before .before in
+    let there = read .before .before .if5 .left in
+    let found = read .before .before .before in
     let room = found .before in
     let sound = sound-at found in
     let start = entry (sound .before) in
     let a = start .args in
     let here = sym (slot-there _ (a .store .now) (omega arith)) ∙ found-here found in
     let it = ap (λ (p : Profile). done p) (read .profile-at .ensures) ∙ here in
-    line-found classes (a .store .now) (a .country .now) (a .out .now) (exists start) (suggested start) (a .length .now)
+    line-found (classes start) (a .store .now) (a .country .now) (a .out .now) (exists start) (suggested start) (a .length .now)
     (sound .before .before .before .if1 .left) (measured sound) (room .before .if3 .left) (room .if4 .left) _ it
-    (wrote .write-profile-line .ensures)
+    (by-store (a .store .now) _ (wrote .write-profile-line .ensures))
 
 pub nearest-spec : {M : Type 1} → statement M
 nearest-spec =
@@ -141,6 +156,9 @@ nearest-spec =
     returns-4
     find-nearest-requires
     returns-5
+    sub-write-profile-line
+    part-write-profile-line-start
+    part-write-profile-line-end
     profile-at-requires
     write-profile-line-requires
     same-length

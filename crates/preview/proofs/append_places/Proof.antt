@@ -7,11 +7,11 @@ use native.Mathlib.Omega.{arith}
 use lib.ListN.{length, getD}
 use Rattle.decimal.specs.Decimal.{Appended}
 use Rattle.decimal.proofs.Stores.{then, appended-as, appended-length, room-as}
+use Rattle.store.specs.Stored.{capacity}
 use Rattle.order.specs.InnerPlaces.{profileIn}
-use Rattle.order.proofs.PlacesLaws.{slot-fits}
 use Rattle.preview.specs.Preview.{row, rows}
 use Rattle.preview.proofs.RowLaws.{rowsBefore, rows-more, row-room, rows-all}
-use borrow.Author.Needs.{needs}
+use borrow.Author.Needs.{needs, fits-under}
 use Rattle.preview.proofs.append_places.Statement.{statement}
 use Rattle.preview.proofs.append_places.Tie as tie
 
@@ -30,7 +30,8 @@ shared-slice-read-slot : tie.Need-shared-slice-read-slot Inv-loop μ-loop
 shared-slice-read-slot c = search needs
 
 cast-profile-at : tie.Need-cast-profile-at Inv-loop μ-loop
-cast-profile-at c = slot-fits (c .before .before .before .before .before .before .pre .1 .0 _)
+cast-profile-at c =
+    fits-under _ _ capacity (c .before .before .before .before .before .before .pre .1 .0 _) tt
 
 profile-at-requires : tie.Need-profile-at-requires Inv-loop μ-loop
 profile-at-requires c κs =

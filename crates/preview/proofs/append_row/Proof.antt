@@ -2,7 +2,6 @@
 use native.Mathlib.Omega.{arith}
 use Rattle.decimal.proofs.Stores.{appended-length}
 use Rattle.preview.proofs.RowLaws.{row-length, row-put}
-use borrow.Author.Needs.{needs}
 use Rattle.preview.proofs.append_row.Statement.{statement}
 use Rattle.preview.proofs.append_row.Tie as tie
 

@@ -12,14 +12,17 @@ slice-aggregate-read-full c = search needs
 read-full-requires : tie.Need-read-full-requires
 read-full-requires c κs = search needs
 
-array-share-prefix-input : tie.Need-array-share-prefix-input
-array-share-prefix-input c = search needs
-
 slice-aggregate-preview : tie.Need-slice-aggregate-preview
 slice-aggregate-preview c = search needs
 
+array-share-prefix-input : tie.Need-array-share-prefix-input
+array-share-prefix-input c = search needs
+
 slice-aggregate-preview-2 : tie.Need-slice-aggregate-preview-2
 slice-aggregate-preview-2 c = search needs
+
+slice-aggregate-preview-3 : tie.Need-slice-aggregate-preview-3
+slice-aggregate-preview-3 c = search needs
 
 preview-requires : tie.Need-preview-requires
 preview-requires c κs = search needs
@@ -43,7 +46,7 @@ array-share-prefix-out c = within c
 slice-aggregate-write-all : tie.Need-slice-aggregate-write-all
 slice-aggregate-write-all c =
     let preview = c .before .before .before .before .before .preview in
-    sym (length-take-le _ (preview .last .1 .0) (within (c .before)))
+    sym (length-take-le _ (preview .last .1 .1 .0) (within (c .before)))
 
 write-all-requires : tie.Need-write-all-requires
 write-all-requires c κs = search needs
@@ -57,9 +60,10 @@ main-spec =
     (tie.spec
     slice-aggregate-read-full
     read-full-requires
-    array-share-prefix-input
     slice-aggregate-preview
+    array-share-prefix-input
     slice-aggregate-preview-2
+    slice-aggregate-preview-3
     preview-requires
     enum-known-answer
     enum-told

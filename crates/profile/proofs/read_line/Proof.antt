@@ -9,7 +9,8 @@ use Rattle.decimal.specs.Decimal.{Room}
 use Rattle.profile.specs.declared.Profile.{Profile}
 use Rattle.outcome.specs.Lists.{same}
 use Rattle.outcome.specs.Result.{done}
-use Rattle.profile.specs.Rules.{_to_, contains, classes, valid}
+use Rattle.profile.specs.Rules.{_to_, contains, Class, valid}
+use Rattle.profile.specs.Table.{tableOf}
 use Rattle.profile.specs.Line.{tag, shortest, longest, lineOf, kindIn, scanned}
 use Rattle.decimal.proofs.Stores.{appended-length, front-length, front-taken}
 use Rattle.profile.proofs.RuleLaws.{inside, under, over, failing, passing}
@@ -21,7 +22,7 @@ use Rattle.profile.proofs.read_line.Tie as tie
 
 -- the line, at the places to which the checks lead
 abbrev line-fitting : tie.Else2 → List ℕ
-line-fitting c = c .before .before .before .args .line .now
+line-fitting c = c .before .before .before .before .args .line .now
 
 abbrev line-begun : tie.Else3 → List ℕ
 line-begun c = line-fitting (c .before .before)
@@ -32,6 +33,16 @@ line-kept c = line-begun (c .before .before .before)
 abbrev line-compared : tie.After-equal → List ℕ
 line-compared c = line-kept (c .before .before .before .before .before)
 
+-- and the classes of the table, which is never written to
+abbrev table-fitting : tie.Else2 → List Class
+table-fitting c = tableOf (c .before .before .before .before .args .table .now)
+
+abbrev table-begun : tie.Else3 → List Class
+table-begun c = table-fitting (c .before .before)
+
+abbrev table-kept : tie.Else4 → List Class
+table-kept c = table-begun (c .before .before .before)
+
 -- its length is within the limits; the tag is there; what was found keeps the rules
 sized : (c : tie.Else2) → contains (shortest to longest) (length (line-fitting c)) ≡ true
 sized c = inside shortest longest (length (line-fitting c)) (omega arith) (omega arith)
@@ -39,15 +50,15 @@ sized c = inside shortest longest (length (line-fitting c)) (omega arith) (omega
 tagged : (c : tie.Else3) → same (take 4 (line-begun c)) (tag (kindIn (line-begun c))) ≡ true
 tagged c = passing (c .before .is-tagged .ensures) (c .if3 .left)
 
-found-kept : (c : tie.Else4) → valid classes (c .before .before .scan .result) ≡ true
+found-kept : (c : tie.Else4) → valid (table-kept c) (c .before .before .scan .result) ≡ true
 found-kept c = passing (c .before .valid .ensures) (c .if4 .left)
 
-rules-kept : (c : tie.Else4) → valid classes (scanned (line-kept c)) ≡ true
+rules-kept : (c : tie.Else4) → valid (table-kept c) (scanned (line-kept c)) ≡ true
 rules-kept c = rw (c .before .before .scan .ensures) at (found-kept c)
 
 -- the line of what was found has room in the longest buffer
 roomy : (c : tie.After-again) → Room (replicate longest 0) 0 (lineOf (c .before .before .before .scan .result))
-roomy c = line-room classes (c .before .before .before .scan .result) (replicate longest 0) (found-kept (c .before)) refl
+roomy c = line-room (table-kept (c .before)) (c .before .before .before .scan .result) (replicate longest 0) (found-kept (c .before)) refl
 
 -- and is put there
 put-there : (c : tie.After-append-line)
@@ -68,10 +79,14 @@ respelled c =
     ∙ ap (λ (p : Profile). same (lineOf p) (line-compared c)) (put .before .before .before .before .scan .ensures)
 
 returns : tie.Need-returns
-returns c = sym (read-size classes (c .before .before .args .line .now) (under shortest longest _ (c .if1 .taken)))
+returns c =
+    let a = c .before .before .before .args in
+    sym (read-size (tableOf (a .table .now)) (a .line .now) (under shortest longest _ (c .if1 .taken)))
 
 returns-2 : tie.Need-returns-2
-returns-2 c = sym (read-size classes (c .before .before .before .args .line .now) (over shortest longest _ (c .if2 .taken)))
+returns-2 c =
+    let a = c .before .before .before .before .args in
+    sym (read-size (tableOf (a .table .now)) (a .line .now) (over shortest longest _ (c .if2 .taken)))
 
 is-tagged-requires : tie.Need-is-tagged-requires
 is-tagged-requires c κs = search needs
@@ -80,7 +95,7 @@ returns-3 : tie.Need-returns-3
 returns-3 c =
     let fitting = c .before .before in
     let line = line-fitting fitting in
-    sym (read-tag classes line (sized fitting) (failing (c .before .is-tagged .ensures) (c .if3 .taken)))
+    sym (read-tag (table-fitting fitting) line (sized fitting) (failing (c .before .is-tagged .ensures) (c .if3 .taken)))
 
 scan-requires : tie.Need-scan-requires
 scan-requires c κs = search needs
@@ -94,7 +109,7 @@ returns-4 c =
     let fitting = begun .before .before in
     let line = line-fitting fitting in
     let broken = rw (c .before .before .scan .ensures) at (failing (c .before .valid .ensures) (c .if4 .taken)) in
-    sym (read-broken classes line (sized fitting) (tagged begun) broken)
+    sym (read-broken (table-fitting fitting) line (sized fitting) (tagged begun) broken)
 
 slice-aggregate-append-line : tie.Need-slice-aggregate-append-line
 slice-aggregate-append-line c = search needs
@@ -122,7 +137,7 @@ returns-5 c =
     let line = line-fitting fitting in
     let again = sym (respelled compared) ∙ c .if5 .taken in
     ap done (kept .before .before .scan .ensures)
-    ∙ sym (read-done classes line (sized fitting) (tagged begun) (rules-kept kept) again)
+    ∙ sym (read-done (table-fitting fitting) line (sized fitting) (tagged begun) (rules-kept kept) again)
 
 returns-6 : tie.Need-returns-6
 returns-6 c =
@@ -131,7 +146,7 @@ returns-6 c =
     let begun = kept .before .before .before in
     let fitting = begun .before .before in
     let line = line-fitting fitting in
-    sym (read-respelled classes line (sized fitting) (tagged begun) (rules-kept kept) (sym (respelled compared) ∙ c .if5 .left))
+    sym (read-respelled (table-fitting fitting) line (sized fitting) (tagged begun) (rules-kept kept) (sym (respelled compared) ∙ c .if5 .left))
 
 pub read-line-spec : {M : Type 1} → statement M
 read-line-spec =

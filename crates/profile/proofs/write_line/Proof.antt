@@ -1,5 +1,5 @@
 -- `profile::write_line` meets its contract: one check after the other, and then the line is put. Assumes nothing.
-use Rattle.profile.specs.Rules.{classes}
+use Rattle.profile.specs.Table.{tableOf}
 use Rattle.decimal.proofs.Stores.{appended-length}
 use Rattle.profile.proofs.RuleLaws.{failing, passing}
 use Rattle.profile.proofs.EntryLaws.{line-room, write-size, write-broken, write-done}
@@ -9,8 +9,8 @@ use Rattle.profile.proofs.write_line.Tie as tie
 
 returns : tie.Need-returns
 returns c =
-    let a = c .before .before .args in
-    write-size classes (a .p) (a .out .now) (c .if1 .taken)
+    let a = c .before .before .before .args in
+    write-size (tableOf (a .table .now)) (a .p) (a .out .now) (c .if1 .taken)
 
 valid-requires : tie.Need-valid-requires
 valid-requires c κs = search needs
@@ -18,15 +18,15 @@ valid-requires c κs = search needs
 returns-2 : tie.Need-returns-2
 returns-2 c =
     let sized = c .before .before in
-    let a = sized .before .before .args in
-    write-broken classes (a .p) (a .out .now) (sized .if1 .left) (failing (c .before .valid .ensures) (c .if2 .taken))
+    let a = sized .before .before .before .args in
+    write-broken (tableOf (a .table .now)) (a .p) (a .out .now) (sized .if1 .left) (failing (c .before .valid .ensures) (c .if2 .taken))
 
 append-line-requires : tie.Need-append-line-requires
 append-line-requires c κs =
     let kept = c .before in
     let sized = kept .before .before in
-    let a = sized .before .before .args in
-    line-room classes (a .p) (a .out .now) (passing (kept .before .valid .ensures) (kept .if2 .left)) (sized .if1 .left)
+    let a = sized .before .before .before .args in
+    line-room (tableOf (a .table .now)) (a .p) (a .out .now) (passing (kept .before .valid .ensures) (kept .if2 .left)) (sized .if1 .left)
 
 same-length : tie.Need-same-length
 same-length c = appended-length (c .before .before .append-line .ensures)
@@ -36,8 +36,8 @@ returns-3 c =
     let put = c .before .before in
     let kept = put .before .before in
     let sized = kept .before .before in
-    let a = sized .before .before .args in
-    write-done classes (a .p) (a .out .now) (sized .if1 .left) (passing (kept .before .valid .ensures) (kept .if2 .left)) (put .append-line .ensures)
+    let a = sized .before .before .before .args in
+    write-done (tableOf (a .table .now)) (a .p) (a .out .now) (sized .if1 .left) (passing (kept .before .valid .ensures) (kept .if2 .left)) (put .append-line .ensures)
 
 pub write-line-spec : {M : Type 1} → statement M
 write-line-spec =

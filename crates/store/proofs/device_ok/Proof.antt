@@ -1,65 +1,55 @@
--- `store::device_ok` meets its contract. Assumes nothing.
-use mathlib.Core.Path.{_∙_, sym}
-use borrow.Author.Tests.{not-true, not-false}
-use Rattle.profile.specs.Rules.{classes}
-use Rattle.store.proofs.KeyLaws.{device-first, device-second, device-class, device-hertz}
+-- `store::device_ok` meets its contract: the table stands behind the slots; a shorter image has none. Assumes nothing.
+use mathlib.Core.Path.{_∙_, ap}
+use mathlib.Core.List.{List}
+use native.Mathlib.Omega.{arith}
+use Rattle.profile.specs.Rules.{Class}
+use Rattle.store.specs.Keys.{deviceOk}
+use Rattle.store.proofs.ClassLaws.{no-table, behind-slots}
 use borrow.Author.Needs.{needs}
 use Rattle.store.proofs.device_ok.Statement.{statement}
 use Rattle.store.proofs.device_ok.Tie as tie
 
-is-letter-requires : tie.Need-is-letter-requires
-is-letter-requires c κs = search needs
+slice-aggregate-is-setting : tie.Need-slice-aggregate-is-setting
+slice-aggregate-is-setting c = search needs
+
+is-setting-requires : tie.Need-is-setting-requires
+is-setting-requires c κs = search needs
 
 returns : tie.Need-returns
 returns c =
-    sym (device-first classes (c .before .before .args .device)
-    (sym (c .before .is-letter .ensures) ∙ not-true _ (c .if1 .taken)))
+    let short = c .before .before in
+    let a = short .before .before .args in
+    c .is-setting .ensures
+    ∙ ap (λ (table : List Class). deviceOk table (a .device)) (no-table (a .store .now) (omega arith))
 
-is-letter-requires-2 : tie.Need-is-letter-requires-2
-is-letter-requires-2 c κs = search needs
+sub-is-setting : tie.Need-sub-is-setting
+sub-is-setting c = search needs
+
+part-is-setting-start : tie.Need-part-is-setting-start
+part-is-setting-start c = search needs
+
+part-is-setting-end : tie.Need-part-is-setting-end
+part-is-setting-end c = search needs
+
+is-setting-requires-2 : tie.Need-is-setting-requires-2
+is-setting-requires-2 c κs = search needs
 
 returns-2 : tie.Need-returns-2
 returns-2 c =
-    let first = c .before .before .before in
-    sym (device-second classes (first .before .args .device)
-    (sym (first .is-letter .ensures) ∙ not-false _ (c .before .before .if1 .left))
-    (sym (c .before .is-letter2 .ensures) ∙ not-true _ (c .if2 .taken)))
-
-is-class-requires : tie.Need-is-class-requires
-is-class-requires c κs = search needs
-
-returns-3 : tie.Need-returns-3
-returns-3 c =
-    let second = c .before .before in
-    let first = second .before .before .before in
-    sym (device-class classes (first .before .args .device)
-    (sym (first .is-letter .ensures) ∙ not-false _ (second .before .before .if1 .left))
-    (sym (second .before .is-letter2 .ensures) ∙ not-false _ (second .if2 .left))
-    (sym (c .before .is-class .ensures) ∙ not-true _ (c .if3 .taken)))
-
-is-nominal-hertz-requires : tie.Need-is-nominal-hertz-requires
-is-nominal-hertz-requires c κs = search needs
-
-returns-4 : tie.Need-returns-4
-returns-4 c =
-    let third = c .before in
-    let second = third .before .before in
-    let first = second .before .before .before in
-    c .is-nominal-hertz .ensures
-    ∙ sym (device-hertz classes (first .before .args .device)
-    (sym (first .is-letter .ensures) ∙ not-false _ (second .before .before .if1 .left))
-    (sym (second .before .is-letter2 .ensures) ∙ not-false _ (second .if2 .left))
-    (sym (third .before .is-class .ensures) ∙ not-false _ (third .if3 .left)))
+    let long = c .before .before in
+    let a = long .before .before .args in
+    c .is-setting2 .ensures
+    ∙ ap (λ (table : List Class). deviceOk table (a .device)) (behind-slots (a .store .now))
 
 pub device-ok-spec : {M : Type 1} → statement M
 device-ok-spec =
     tie.close
     (tie.spec
-    is-letter-requires
+    slice-aggregate-is-setting
+    is-setting-requires
     returns
-    is-letter-requires-2
-    returns-2
-    is-class-requires
-    returns-3
-    is-nominal-hertz-requires
-    returns-4)
+    sub-is-setting
+    part-is-setting-start
+    part-is-setting-end
+    is-setting-requires-2
+    returns-2)

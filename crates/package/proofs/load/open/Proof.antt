@@ -6,7 +6,7 @@ use lib.ListN.{length}
 use lib.Seq.{length-take-le}
 use borrow.Author.Needs.{needs}
 use Rattle.outcome.specs.Answer.{bad-size, bad-profile, firstRefusal}
-use Rattle.profile.specs.Rules.{classes}
+use Rattle.profile.specs.Table.{tableOf}
 use Rattle.profile.specs.Line.{readLine, readAnswer}
 use Rattle.scheme.specs.Verify.{verify}
 use Rattle.package.specs.Package.{signatureIn, lineIn, openSizes}
@@ -25,7 +25,7 @@ use Rattle.package.proofs.load.open.Tie as tie
 -- ---- places of the code, each from the next
 
 abbrev entry : tie.Else1 → tie.Start
-entry c = c .before .before .before .before .before .before
+entry c = c .before .before .before .before .before .before .before
 
 abbrev at-size : tie.After-verify → tie.After-signature-size
 at-size c = c .before .before .before .before .before
@@ -69,11 +69,11 @@ verified c = sym (answered (at-verify c)) ∙ c .if2 .left
 -- the package's line was read
 read : (c : tie.After-read-line) →
     let a = entry (at-size (at-verify (passed c)) .before) .args in
-    readAnswer (c .read-line .result) ≡ readLine classes (lineIn (a .p) (a .sealed .now))
+    readAnswer (c .read-line .result) ≡ readLine (tableOf (a .table .now)) (lineIn (a .p) (a .sealed .now))
 read c =
     let place = at-size (at-verify (passed c)) in
     let a = entry (place .before) .args in
-    read-part (a .p) (a .sealed .now) (place .signature-size .result) (place .signature-size .ensures) classes
+    read-part (a .p) (a .sealed .now) (place .signature-size .result) (place .signature-size .ensures) (tableOf (a .table .now))
     (c .read-line .ensures)
 
 -- ---- needs
@@ -84,9 +84,9 @@ check-open-requires c κs = search needs
 returns : tie.Need-returns
 returns c =
     let sizes = c .before in
-    let a = sizes .before .before .before .before .before .args in
-    open-sizes (a .p) classes (a .key .now) (a .sealed .now) (sizes .check-open .result) (sizes .check-open .ensures)
-    (c .if1 .taken)
+    let a = sizes .before .before .before .before .before .before .args in
+    open-sizes (a .p) (tableOf (a .table .now)) (a .key .now) (a .sealed .now) (sizes .check-open .result)
+    (sizes .check-open .ensures) (c .if1 .taken)
 
 signature-size-requires : tie.Need-signature-size-requires
 signature-size-requires c κs = search needs
@@ -117,8 +117,8 @@ returns-2 c =
     let asked = c .before .before .before .before .before in
     let right = at-size asked .before in
     let a = entry right .args in
-    open-verify (a .p) classes (a .key .now) (a .sealed .now) (sized right) (asked .verify .result) (answered asked)
-    (c .if2 .taken)
+    open-verify (a .p) (tableOf (a .table .now)) (a .key .now) (a .sealed .now) (sized right) (asked .verify .result)
+    (answered asked) (c .if2 .taken)
 
 sub-read-line : tie.Need-sub-read-line
 sub-read-line c = within (at-size (at-verify c))
@@ -152,7 +152,7 @@ returns-3 c =
     let told = c .before .before .before in
     let right = at-size (at-verify (passed told)) .before in
     let a = entry right .args in
-    open-profile (a .p) classes (a .key .now) (a .sealed .now) (sized right) (verified (passed told)) _
+    open-profile (a .p) (tableOf (a .table .now)) (a .key .now) (a .sealed .now) (sized right) (verified (passed told)) _
     (sym (ap readAnswer (c .before .profile .given .1)) ∙ read told)
 
 same-length-5 : tie.Need-same-length-5
@@ -166,7 +166,7 @@ returns-4 c =
     let told = c .before .before in
     let right = at-size (at-verify (passed told)) .before in
     let a = entry right .args in
-    open-line (a .p) classes (a .key .now) (a .sealed .now) (sized right) (verified (passed told)) bad-size
+    open-line (a .p) (tableOf (a .table .now)) (a .key .now) (a .sealed .now) (sized right) (verified (passed told)) bad-size
     (sym (ap readAnswer (c .enum-told .given .1)) ∙ read told)
 
 same-length-7 : tie.Need-same-length-7
@@ -180,7 +180,7 @@ returns-5 c =
     let told = c .before .before in
     let right = at-size (at-verify (passed told)) .before in
     let a = entry right .args in
-    open-line (a .p) classes (a .key .now) (a .sealed .now) (sized right) (verified (passed told)) bad-profile
+    open-line (a .p) (tableOf (a .table .now)) (a .key .now) (a .sealed .now) (sized right) (verified (passed told)) bad-profile
     (sym (ap readAnswer (c .enum-told2 .given .1)) ∙ read told)
 
 pub open-spec : {M : Type 1} → statement M

@@ -1,7 +1,7 @@
 -- `make_from_line`: sizes, then the line is read, and where it is one it is sealed. Assumes nothing.
 use mathlib.Core.Path.{_≡_, _∙_, sym, ap}
 use borrow.Author.Needs.{needs}
-use Rattle.profile.specs.Rules.{classes}
+use Rattle.profile.specs.Table.{tableOf}
 use Rattle.outcome.specs.Result.{done}
 use Rattle.profile.specs.Line.{readLine, readAnswer}
 use Rattle.package.proofs.MakeLaws.{
@@ -17,7 +17,7 @@ use Rattle.package.proofs.make.make_from_line.Tie as tie
 -- ---- places of the code, each from the next
 
 abbrev entry : tie.After-check-make → tie.Start
-entry c = c .before .before .before .before .before .before .before .before .before .before
+entry c = c .before .before .before .before .before .before .before .before .before .before .before
 
 abbrev at-sizes : tie.After-read-line → tie.Else1
 at-sizes c = c .before
@@ -28,7 +28,7 @@ at-read c = c .before .before
 -- the line was read as a profile
 read : (c : tie.After-profile) →
     let a = entry (at-sizes (at-read c) .before) .args in
-    done (c .profile .given .0 .0) ≡ readLine classes (a .line .now)
+    done (c .profile .given .0 .0) ≡ readLine (tableOf (a .table .now)) (a .line .now)
 read c = sym (ap readAnswer (c .profile .given .1)) ∙ at-read c .read-line .ensures
 
 -- ---- needs
@@ -40,7 +40,7 @@ returns : tie.Need-returns
 returns c =
     let sized = c .before in
     let a = entry sized .args in
-    make-line-sizes (a .p) classes (a .private .now) (a .master .now) (a .salt .now) (a .line .now) (a .out .now)
+    make-line-sizes (a .p) (a .table .now) (a .private .now) (a .master .now) (a .salt .now) (a .line .now) (a .out .now)
     (a .length .now) (sized .check-make .result) (c .if1 .taken) (sized .check-make .ensures)
 
 read-line-requires : tie.Need-read-line-requires
@@ -57,7 +57,7 @@ seal-requires c κs =
     let start = entry (passed .before) in
     let a = start .args in (
       start .pre,
-      read-room (a .p) classes (a .private .now) (a .master .now) (a .salt .now) (a .line .now) (a .out .now)
+      read-room (a .p) (a .table .now) (a .private .now) (a .master .now) (a .salt .now) (a .line .now) (a .out .now)
           (a .length .now) (sized .result) (sized .ensures) (passed .if1 .left) _ (read found),
     )
 
@@ -89,7 +89,7 @@ returns-2 c =
     let passed = at-sizes (at-read found) in
     let sized = passed .before .check-make in
     let a = entry (passed .before) .args in
-    make-line-sealed (a .p) classes (a .private .now) (a .master .now) (a .salt .now) (a .line .now) (a .out .now)
+    make-line-sealed (a .p) (a .table .now) (a .private .now) (a .master .now) (a .salt .now) (a .line .now) (a .out .now)
     (a .length .now) (sized .result) (sized .ensures) (passed .if1 .left) _ (read found) (sealed .seal .ensures)
 
 returns-3 : tie.Need-returns-3
@@ -98,7 +98,7 @@ returns-3 c =
     let passed = at-sizes told in
     let sized = passed .before .check-make in
     let a = entry (passed .before) .args in
-    make-line-short (a .p) classes (a .private .now) (a .master .now) (a .salt .now) (a .line .now) (a .out .now)
+    make-line-short (a .p) (a .table .now) (a .private .now) (a .master .now) (a .salt .now) (a .line .now) (a .out .now)
     (a .length .now) (sized .result) (sized .ensures) (passed .if1 .left)
     (sym (ap readAnswer (c .enum-told .given .1)) ∙ told .read-line .ensures)
 
@@ -108,7 +108,7 @@ returns-4 c =
     let passed = at-sizes told in
     let sized = passed .before .check-make in
     let a = entry (passed .before) .args in
-    make-line-broken (a .p) classes (a .private .now) (a .master .now) (a .salt .now) (a .line .now) (a .out .now)
+    make-line-broken (a .p) (a .table .now) (a .private .now) (a .master .now) (a .salt .now) (a .line .now) (a .out .now)
     (a .length .now) (sized .result) (sized .ensures) (passed .if1 .left)
     (sym (ap readAnswer (c .enum-told2 .given .1)) ∙ told .read-line .ensures)
 

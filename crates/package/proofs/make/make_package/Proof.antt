@@ -4,7 +4,7 @@ use native.Mathlib.Omega.{arith}
 use borrow.Author.Needs.{needs}
 use Rattle.profile.specs.declared.WriteLine.{WriteLine}
 use Rattle.profile.specs.declared.WriteLine.the-variants.{Written, BadSize, BadProfile}
-use Rattle.profile.specs.Rules.{classes}
+use Rattle.profile.specs.Table.{tableOf}
 use Rattle.profile.specs.Line.{Writes}
 use Rattle.package.proofs.MakeLaws.{
   front-length,
@@ -22,7 +22,7 @@ use Rattle.package.proofs.make.make_package.Tie as tie
 -- ---- places of the code, each from the next
 
 abbrev entry : tie.After-check-make → tie.Start
-entry c = c .before .before .before .before .before .before .before .before .before
+entry c = c .before .before .before .before .before .before .before .before .before .before
 
 abbrev at-sizes : tie.After-write-line → tie.Else1
 at-sizes c = c .before .before
@@ -31,18 +31,19 @@ abbrev at-write : tie.After-n → tie.After-write-line
 at-write c = c .before .before .before
 
 -- the local bytes, as `write_line` left them where it gave this answer
-answered : (c : tie.After-write-line) (r : WriteLine) → c .write-line .result ≡ r
-    → Writes classes (entry (at-sizes c .before) .args .profile) blank r (c .write-line .last .1 .0)
+answered : (c : tie.After-write-line) (r : WriteLine) → c .write-line .result ≡ r →
+    let a = entry (at-sizes c .before) .args in
+    Writes (tableOf (a .table .now)) (a .profile) blank r (c .write-line .last .1 .1 .0)
 answered c r told =
     let a = entry (at-sizes c .before) .args in
-    subst (λ (w : WriteLine). Writes classes (a .profile) blank w (c .write-line .last .1 .0)) told
+    subst (λ (w : WriteLine). Writes (tableOf (a .table .now)) (a .profile) blank w (c .write-line .last .1 .1 .0)) told
     (c .write-line .ensures)
 
 -- where it wrote
 written : (c : tie.After-n) →
     let call = at-write c in
-    Writes classes (entry (at-sizes call .before) .args .profile) blank (Written (c .n .given .0 .0))
-    (call .write-line .last .1 .0)
+    let a = entry (at-sizes call .before) .args in
+    Writes (tableOf (a .table .now)) (a .profile) blank (Written (c .n .given .0 .0)) (call .write-line .last .1 .1 .0)
 written c = answered (at-write c) (Written (c .n .given .0 .0)) (c .n .given .1)
 
 -- ---- needs
@@ -54,7 +55,7 @@ returns : tie.Need-returns
 returns c =
     let sized = c .before in
     let a = entry sized .args in
-    make-sizes (a .p) classes (a .private .now) (a .master .now) (a .salt .now) (a .profile) (a .out .now)
+    make-sizes (a .p) (a .table .now) (a .private .now) (a .master .now) (a .salt .now) (a .profile) (a .out .now)
     (a .length .now)
     (sized .check-make .result) (c .if1 .taken) (sized .check-make .ensures)
 
@@ -72,28 +73,28 @@ array-share-prefix-line c =
     let found = c .before in
     let call = at-write found in
     let a = entry (at-sizes call .before) .args in
-    let bytes = call .write-line .last .1 .0 in
-    let short-draw = written-short classes (a .profile) bytes (found .n .given .0 .0) (written found) in
-    omega (arith, call .write-line .kept .1 .0)
+    let bytes = call .write-line .last .1 .1 .0 in
+    let short-draw = written-short (tableOf (a .table .now)) (a .profile) bytes (found .n .given .0 .0) (written found) in
+    omega (arith, call .write-line .kept .1 .1 .0)
 
 slice-aggregate-seal : tie.Need-slice-aggregate-seal
 slice-aggregate-seal c =
     let told = c .before in
-    front-length _ (at-write (told .before) .write-line .last .1 .0) (array-share-prefix-line told)
+    front-length _ (at-write (told .before) .write-line .last .1 .1 .0) (array-share-prefix-line told)
 
 seal-requires : tie.Need-seal-requires
 seal-requires c κs =
     let told = c .before .before .before .before .before .before .before in
     let call = at-write (told .before) in
-    let bytes = call .write-line .last .1 .0 in
+    let bytes = call .write-line .last .1 .1 .0 in
     let passed = at-sizes call in
     let sized = passed .before .check-make in
     let start = entry (passed .before) in
     let a = start .args in (
       start .pre,
-      front-room (a .p) classes (a .private .now) (a .master .now) (a .salt .now) (a .profile) (a .out .now)
+      front-room (a .p) (a .table .now) (a .private .now) (a .master .now) (a .salt .now) (a .profile) (a .out .now)
           (a .length .now)
-          (sized .result) (sized .ensures) (passed .if1 .left) _ bytes (call .write-line .kept .1 .0)
+          (sized .result) (sized .ensures) (passed .if1 .left) _ bytes (call .write-line .kept .1 .1 .0)
           (array-share-prefix-line told),
     )
 
@@ -126,16 +127,16 @@ returns-2 c =
     let passed = at-sizes call in
     let sized = passed .before .check-make in
     let a = entry (passed .before) .args in
-    make-sealed (a .p) classes (a .private .now) (a .master .now) (a .salt .now) (a .profile) (a .out .now)
+    make-sealed (a .p) (a .table .now) (a .private .now) (a .master .now) (a .salt .now) (a .profile) (a .out .now)
     (a .length .now)
-    (sized .result) (sized .ensures) (passed .if1 .left) (call .write-line .last .1 .0) (found .n .given .0 .0)
+    (sized .result) (sized .ensures) (passed .if1 .left) (call .write-line .last .1 .1 .0) (found .n .given .0 .0)
     (written found) (sealed .seal .ensures)
 
 returns-3 : tie.Need-returns-3
 returns-3 c =
     let call = c .before .before .before in
     let a = entry (at-sizes call .before) .args in
-    absurd (never-small classes (a .profile) (call .write-line .last .1 .0)
+    absurd (never-small (tableOf (a .table .now)) (a .profile) (call .write-line .last .1 .1 .0)
     (answered call BadSize (c .enum-told .given .1)))
 
 returns-4 : tie.Need-returns-4
@@ -144,9 +145,9 @@ returns-4 c =
     let passed = at-sizes call in
     let sized = passed .before .check-make in
     let a = entry (passed .before) .args in
-    make-broken (a .p) classes (a .private .now) (a .master .now) (a .salt .now) (a .profile) (a .out .now)
+    make-broken (a .p) (a .table .now) (a .private .now) (a .master .now) (a .salt .now) (a .profile) (a .out .now)
     (a .length .now)
-    (sized .result) (sized .ensures) (passed .if1 .left) (call .write-line .last .1 .0)
+    (sized .result) (sized .ensures) (passed .if1 .left) (call .write-line .last .1 .1 .0)
     (answered call BadProfile (c .enum-told2 .given .1))
 
 pub make-package-spec : {M : Type 1} → statement M

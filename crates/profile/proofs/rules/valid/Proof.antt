@@ -1,5 +1,5 @@
 -- `profile::rules::valid` meets its contract: the first part that fails decides, and else the class. Assumes nothing.
-use Rattle.profile.specs.Rules.{classes}
+use Rattle.profile.specs.Table.{tableOf}
 use Rattle.profile.proofs.RuleLaws.{failing, passing, valid-apart}
 use borrow.Author.Needs.{needs}
 use Rattle.profile.proofs.rules.valid.Statement.{statement}
@@ -9,7 +9,9 @@ country-obeys-requires : tie.Need-country-obeys-requires
 country-obeys-requires c κs = search needs
 
 returns : tie.Need-returns
-returns c = rw (valid-apart classes (c .before .before .before .args .p), failing (c .before .country-obeys .ensures) (c .if1 .taken))
+returns c =
+    let a = c .before .before .before .before .args in
+    rw (valid-apart (tableOf (a .table .now)) (a .p), failing (c .before .country-obeys .ensures) (c .if1 .taken))
 
 ratings-obey-requires : tie.Need-ratings-obey-requires
 ratings-obey-requires c κs = search needs
@@ -17,8 +19,9 @@ ratings-obey-requires c κs = search needs
 returns-2 : tie.Need-returns-2
 returns-2 c =
     let past-country = c .before .before in
+    let a = past-country .before .before .before .before .args in
     rw (
-      valid-apart classes (past-country .before .before .before .args .p),
+      valid-apart (tableOf (a .table .now)) (a .p),
       passing (past-country .before .country-obeys .ensures) (past-country .if1 .left),
       failing (c .before .ratings-obey .ensures) (c .if2 .taken),
     )
@@ -30,8 +33,9 @@ returns-3 : tie.Need-returns-3
 returns-3 c =
     let past-ratings = c .before .before in
     let past-country = past-ratings .before .before in
+    let a = past-country .before .before .before .before .args in
     rw (
-      valid-apart classes (past-country .before .before .before .args .p),
+      valid-apart (tableOf (a .table .now)) (a .p),
       passing (past-country .before .country-obeys .ensures) (past-country .if1 .left),
       passing (past-ratings .before .ratings-obey .ensures) (past-ratings .if2 .left),
       failing (c .before .trips-obey .ensures) (c .if3 .taken),
@@ -45,8 +49,9 @@ returns-4 c =
     let past-trips = c .before in
     let past-ratings = past-trips .before .before in
     let past-country = past-ratings .before .before in
+    let a = past-country .before .before .before .before .args in
     rw (
-      valid-apart classes (past-country .before .before .before .args .p),
+      valid-apart (tableOf (a .table .now)) (a .p),
       passing (past-country .before .country-obeys .ensures) (past-country .if1 .left),
       passing (past-ratings .before .ratings-obey .ensures) (past-ratings .if2 .left),
       passing (past-trips .before .trips-obey .ensures) (past-trips .if3 .left),

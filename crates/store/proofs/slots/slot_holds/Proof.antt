@@ -34,17 +34,22 @@ returns-3 c =
     let used = sym (first .before .is-used .ensures) ∙ not-false _ (first .if1 .left) in
     simp (used, eq-eqb _ _ (second .if2 .left), ne-eqb _ _ (c .if3 .taken))
 
-shared-slice-read-if4 : tie.Need-shared-slice-read-if4
-shared-slice-read-if4 c = search needs
+shared-slice-read-widened : tie.Need-shared-slice-read-widened
+shared-slice-read-widened c = search needs
+
+widened-requires : tie.Need-widened-requires
+widened-requires c κs = search needs
 
 returns-4 : tie.Need-returns-4
 unfolding sameKey profileOf
 returns-4 c =
-    let third = c .before .before .before in
+    let read = c .before .before in
+    let third = read .before .before in
     let second = third .before .before .before in
     let first = second .before .before .before in
     let used = sym (first .before .is-used .ensures) ∙ not-false _ (first .if1 .left) in
-    simp (used, eq-eqb _ _ (second .if2 .left), eq-eqb _ _ (third .if3 .left), ne-eqb _ _ (c .if4 .taken))
+    let class = ne-eqb _ _ (λ e. c .if4 .taken (read .widened .ensures ∙ e)) in
+    simp (used, eq-eqb _ _ (second .if2 .left), eq-eqb _ _ (third .if3 .left), class)
 
 word-at-requires : tie.Need-word-at-requires
 word-at-requires c κs = search needs
@@ -54,28 +59,32 @@ unfolding sameKey profileOf
 returns-5 c =
     let read = c .before .before in
     let fourth = read .before in
-    let third = fourth .before .before .before in
+    let wide = fourth .before .before in
+    let third = wide .before .before in
     let second = third .before .before .before in
     let first = second .before .before .before in
     let used = sym (first .before .is-used .ensures) ∙ not-false _ (first .if1 .left) in
     let country = eq-eqb _ _ (second .if2 .left) in
     let hertz = ne-eqb _ _ (c .if5 .taken) in
+    let class = eq-eqb _ _ (sym (wide .widened .ensures) ∙ fourth .if4 .left) in
     let word = sym (read .word-at .ensures) in
-    simp (used, country, eq-eqb _ _ (third .if3 .left), eq-eqb _ _ (fourth .if4 .left), word, hertz)
+    simp (used, country, eq-eqb _ _ (third .if3 .left), class, word, hertz)
 
 returns-6 : tie.Need-returns-6
 unfolding sameKey profileOf
 returns-6 c =
     let read = c .before .before in
     let fourth = read .before in
-    let third = fourth .before .before .before in
+    let wide = fourth .before .before in
+    let third = wide .before .before in
     let second = third .before .before .before in
     let first = second .before .before .before in
     let used = sym (first .before .is-used .ensures) ∙ not-false _ (first .if1 .left) in
     let country = eq-eqb _ _ (second .if2 .left) in
     let hertz = eq-eqb _ _ (c .if5 .left) in
+    let class = eq-eqb _ _ (sym (wide .widened .ensures) ∙ fourth .if4 .left) in
     let word = sym (read .word-at .ensures) in
-    simp (used, country, eq-eqb _ _ (third .if3 .left), eq-eqb _ _ (fourth .if4 .left), word, hertz)
+    simp (used, country, eq-eqb _ _ (third .if3 .left), class, word, hertz)
 
 pub slot-holds-spec : {M : Type 1} → statement M
 slot-holds-spec =
@@ -87,7 +96,8 @@ slot-holds-spec =
     returns-2
     shared-slice-read-if3
     returns-3
-    shared-slice-read-if4
+    shared-slice-read-widened
+    widened-requires
     returns-4
     word-at-requires
     returns-5

@@ -1,0 +1,9 @@
+pub mod RowLaws
+pub mod TextLaws
+pub mod ImageLaws
+pub mod PlaceLaws
+pub mod LoopLaws
+pub mod ClassLaws
+pub mod StoreLaws
+pub mod EntryLaws
+pub mod Theorems
