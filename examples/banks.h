@@ -8,9 +8,10 @@
  * cut the old store is found, or the new one, and never a mix.
  *
  * A device is formatted once, in the factory, before it holds any profile; a format that was cut is
- * done again there. From then on one bank is always whole, and a device on which none is has lost
- * its store. It must not go on with an empty one: that would accept old serials again, and a
- * package that was replaced for a good reason would load.
+ * done again there. A customer's class table is a part of the image: it is loaded there too, and
+ * committed twice, so that it stands in both banks. From then on one bank is always whole, and a
+ * device on which none is has lost its store. It must not go on with an empty one: that would accept
+ * old serials again, and a package that was replaced for a good reason would load.
  *
  * Where the bank that counts is damaged later, the older store counts again: two banks cannot tell
  * that from a cut. A store that is committed twice stands in both, and outlasts that too.
@@ -21,7 +22,7 @@
  * also one whose change was cut. A part that does not promise that has a stricter read, with a
  * margin: the driver uses it as well, and fails where the two differ.
  *
- * Each function has both records on the stack: it needs about 3.5 KB, and what the driver needs. */
+ * Each function has both records on the stack: it needs about 4 KB, and what the driver needs. */
 #ifndef BANKS_H
 #define BANKS_H
 
@@ -81,7 +82,8 @@ enum banks_answer banks_read(const struct banks_flash *flash,
 enum banks_answer banks_commit(const struct banks_flash *flash,
                                const uint8_t image[GRIDPROFILE_STORE_IMAGE_BYTES]);
 
-/* Makes a new device, with the empty store. It refuses with BANKS_IN_USE where a bank is whole. */
+/* Makes a new device, with the empty store, which has the built-in classes. It refuses with
+ * BANKS_IN_USE where a bank is whole. */
 enum banks_answer banks_format(const struct banks_flash *flash);
 
 #ifdef __cplusplus

@@ -1,5 +1,6 @@
 /* How firmware uses the library: a built-in key, a store in two banks of flash with a copy in RAM,
- * and no allocation. It is built for one category: category.h has what that decides.
+ * and no allocation. It is built for one category: category.h has what that decides. It goes by the
+ * built-in classes; with -DRAILWAY it is a device of a customer who has a class table of his own.
  *
  * A package arrives on standard input, as it would over the plant's network. The exit status is the
  * library's answer to loading it, or one of the two below. */
@@ -14,7 +15,11 @@
 
 /* What this device is set to. */
 static const uint8_t country[2] = {'X', 'A'};
+#ifdef RAILWAY
+static const uint32_t class_letter = 'R';
+#else
 static const uint32_t class_letter = 'B';
+#endif
 static const uint32_t hertz = 50;
 
 /* On a device: the flash driver. Here two arrays stand for the banks. */
@@ -68,6 +73,38 @@ static uint8_t load(size_t length)
                         sizeof country, class_letter, hertz);
 }
 
+#ifdef RAILWAY
+
+/* The customer's class table, as its file has it. */
+static const char table[] = "E,100,199\nM,200,400\nR,600,900\nT,950,1000\n";
+
+/* Puts the table into the copy. The library takes one only while no profile is stored: the classes
+ * of a device stay what they are. */
+static uint8_t load_classes(void)
+{
+    return gridprofile_load_table(store, sizeof store, (const uint8_t *)table, sizeof table - 1);
+}
+
+static uint32_t number(const uint8_t *at)
+{
+    return (uint32_t)at[0] | (uint32_t)at[1] << 8 | (uint32_t)at[2] << 16 | (uint32_t)at[3] << 24;
+}
+
+/* A number of the line that this device works by. Functions on lines are lent a class table, here
+ * the store's own; for the built-in classes that is GRIDPROFILE_TABLE_IMAGE_BYTES zeros. */
+static void print_nominal(const uint8_t *line, size_t length)
+{
+    uint8_t profile[GRIDPROFILE_PROFILE_IMAGE_BYTES];
+    uint8_t answer = gridprofile_read_line(store + GRIDPROFILE_STORE_TABLE_OFFSET,
+                                           GRIDPROFILE_TABLE_IMAGE_BYTES, line, length, profile,
+                                           sizeof profile);
+    printf("reading it answers %d\n", answer);
+    if (answer == GRIDPROFILE_DONE)
+        printf("nominal volts %u\n", (unsigned)number(profile + GRIDPROFILE_VOLTS_OFFSET));
+}
+
+#endif
+
 /* The limits that this device works by. */
 static void print_own_profile(void)
 {
@@ -76,8 +113,12 @@ static void print_own_profile(void)
     uint8_t answer = gridprofile_lookup(store, sizeof store, country, sizeof country, class_letter,
                                         hertz, line, sizeof line, &length);
     printf("lookup answers %d\n", answer);
-    if (answer == GRIDPROFILE_DONE)
-        (void)fwrite(line, 1, length, stdout);
+    if (answer != GRIDPROFILE_DONE)
+        return;
+    (void)fwrite(line, 1, length, stdout);
+#ifdef RAILWAY
+    print_nominal(line, length);
+#endif
 }
 
 /* What the device acts by is always read from the banks: it is what would be found after a loss of
@@ -100,12 +141,19 @@ static bool commit_store(void)
     return answer == BANKS_DONE;
 }
 
-/* Once, in the factory: a new device has the empty store. */
+/* Once, in the factory: a new device has the empty store, and then its customer's class table, which
+ * is committed to both banks. */
 static void leave_factory(void)
 {
     (void)flash_erase(0);
     (void)flash_erase(1);
     (void)banks_format(&flash);
+#ifdef RAILWAY
+    if (read_store()) {
+        printf("loading the classes answers %d\n", load_classes());
+        (void)(commit_store() && commit_store());
+    }
+#endif
 }
 
 /* The device at work. After a refused load or a failed commit the copy is read again, and after a
@@ -123,6 +171,9 @@ static int work(void)
         return NO_STORE;
     print_own_profile();
     printf("load of the same package again answers %d\n", load(length));
+#ifdef RAILWAY
+    printf("loading the classes again answers %d\n", load_classes());
+#endif
     return status;
 }
 

@@ -38,9 +38,11 @@ extern "C" {
 #define GRIDPROFILE_OLD_SERIAL 7      /* serial not greater than the stored one of these three */
 #define GRIDPROFILE_STORE_FULL 8      /* no room for another country, class and hertz */
 #define GRIDPROFILE_NOT_STORED 9      /* nothing stored under this country, class and hertz */
-#define GRIDPROFILE_BAD_DEVICE 10     /* a device country, class or hertz that does not exist */
+#define GRIDPROFILE_BAD_DEVICE 10     /* no such country or hertz, or no class of the store's table */
 #define GRIDPROFILE_BAD_FORMULA 11    /* a limit of a line to evaluate is no formula */
 #define GRIDPROFILE_BAD_STEP 12       /* a formula divides by 0, or a result leaves its bounds */
+#define GRIDPROFILE_BAD_TABLE 13      /* a class table breaks a rule of its file */
+#define GRIDPROFILE_STORE_IN_USE 14   /* a class table for a store that holds a profile */
 
 /* Numbers of category 1. */
 #define GRIDPROFILE_PLACES 127           /* places of a vector */
@@ -95,6 +97,25 @@ extern "C" {
 #define GRIDPROFILE_RATE_ABSENT 0
 #define GRIDPROFILE_RATE_PRESENT 1  /* and any other number */
 
+/* Class tables: how many rows one may have, the shortest and the longest file of one, and its image,
+ * in bytes. A table says which nominal volts make which class. An image of zeros is the table of the
+ * built-in classes: A 100 to 139 volts, B 140 to 259, C 260 to 519, D 520 to 1000. */
+#define GRIDPROFILE_TABLE_ROWS 26
+#define GRIDPROFILE_TABLE_FILE_MIN_BYTES 10
+#define GRIDPROFILE_TABLE_FILE_MAX_BYTES 262
+#define GRIDPROFILE_TABLE_IMAGE_BYTES 316
+
+/* Where the parts of a table's image begin: how many rows are used, then the rows. All numbers have
+ * four bytes, low byte first. Where no row is used, the classes are the built-in ones. */
+#define GRIDPROFILE_TABLE_USED_OFFSET 0
+#define GRIDPROFILE_TABLE_ROWS_OFFSET 4
+
+/* A row: its bytes, and where its three numbers begin in it. */
+#define GRIDPROFILE_ROW_BYTES 12
+#define GRIDPROFILE_ROW_CLASS_OFFSET 0  /* the letter's number, 65 to 90 */
+#define GRIDPROFILE_ROW_LOW_OFFSET 4    /* volts, which belong to the class */
+#define GRIDPROFILE_ROW_HIGH_OFFSET 8   /* and these too */
+
 /* A preview: its longest input, and its listing, a header and GRIDPROFILE_STORE_SLOTS rows of at
  * most 19 bytes. */
 #define GRIDPROFILE_PREVIEW_MAX_BYTES 65536
@@ -103,10 +124,11 @@ extern "C" {
 /* Packages and the image of a store, in bytes. */
 #define GRIDPROFILE_PACKAGE_MIN_BYTES 19194
 #define GRIDPROFILE_PACKAGE_MAX_BYTES 19236
-#define GRIDPROFILE_STORE_IMAGE_BYTES 1216
+#define GRIDPROFILE_STORE_IMAGE_BYTES 1532
 
-/* Slots of a store, each the image of a profile. */
+/* Slots of a store, each the image of a profile, and where the image of its class table begins. */
 #define GRIDPROFILE_STORE_SLOTS 16
+#define GRIDPROFILE_STORE_TABLE_OFFSET 1216
 
 /* Measured volts: the most that may be asked for, and how far from them nominal volts may be. */
 #define GRIDPROFILE_NEAREST_VOLTS_MAX 2000
@@ -237,28 +259,44 @@ uint8_t gridprofile_verify_round(const uint8_t *key, size_t key_len, const uint8
                                  const uint8_t *response, size_t response_len,
                                  uint32_t second_challenge, const uint8_t *reply, size_t reply_len);
 
+/* Reads the file of a class table into its image, GRIDPROFILE_TABLE_IMAGE_BYTES, for the functions
+ * on lines, which are lent the table that decides their classes. The file has 1 to
+ * GRIDPROFILE_TABLE_ROWS rows, each a letter A to Z, low volts and high volts, with commas between
+ * them and a line feed at the end of every row. Letters rise from row to row, volts are 100 to 1000
+ * without leading zeros, low volts are at most the high ones and greater than the high ones of the
+ * row before. Volts have a class exactly where a row holds them; volts in a gap have none. The rows
+ * of the image that are not used are written as zeros. Refuses with 1 where table_len is another,
+ * then with 13 where the file breaks a rule; an empty one does, and so do bytes after the last line
+ * feed.
+ * Stack: 512 bytes. */
+uint8_t gridprofile_read_table(const uint8_t *file, size_t file_len, uint8_t *table,
+                               size_t table_len);
+
 /* Reads a profile line into the image of its profile, GRIDPROFILE_PROFILE_IMAGE_BYTES: a byte 1, the
  * country's two letters, the class letter, then numbers of four bytes each, low byte first: serial,
  * nominal volts, hertz, for each of over-voltage, under-voltage, over-frequency and under-frequency
  * its kind (GRIDPROFILE_KIND_SHARE, _ABOVE or _BELOW), its limit without sign, and its delay, and
- * for the rate of change of frequency GRIDPROFILE_RATE_PRESENT, its limit and its delay after a
- * line that begins with GP2, and three numbers 0 after one that begins with GP1; the offsets above
- * say where. Refuses with 1 where the image has another length or the line has not
+ * for the rate of change of frequency GRIDPROFILE_RATE_PRESENT, its limit and its delay after a line
+ * that begins with GP2, and three numbers 0 after one that begins with GP1; the offsets above say
+ * where. The table is the image of a class table, zeros for the built-in classes; it is only read.
+ * Refuses with 1 where either image has another length or the line has not
  * GRIDPROFILE_LINE_MIN_BYTES to GRIDPROFILE_LINE_MAX_BYTES, then with 5 where the line breaks a
- * rule; bytes after its line feed do.
- * Stack: 576 bytes. */
-uint8_t gridprofile_read_line(const uint8_t *line, size_t line_len, uint8_t *profile,
-                              size_t profile_len);
+ * rule; bytes after its line feed do, and so does a class that is not the one that its volts have
+ * under the table.
+ * Stack: 640 bytes. */
+uint8_t gridprofile_read_line(const uint8_t *table, size_t table_len, const uint8_t *line,
+                              size_t line_len, uint8_t *profile, size_t profile_len);
 
 /* Writes the line of a profile's image at the front of GRIDPROFILE_LINE_MAX_BYTES lent bytes, and
- * its length to *length; bytes past it are not touched. The line begins with GP2 exactly where the
- * rate point is present, and else with GP1. The image's first byte is not looked at, a kind over
- * GRIDPROFILE_KIND_ABOVE is a frequency below nominal, and of a rate point that is absent neither
- * limit nor delay is looked at. Refuses with 1 where either length is another, then with 5 where the
- * profile breaks a rule; *length is then as it was.
- * Stack: 320 bytes. */
-uint8_t gridprofile_write_line(const uint8_t *profile, size_t profile_len, uint8_t *line,
-                               size_t line_len, size_t *length);
+ * its length to *length; bytes past it are not touched. The table is the image of a class table, as
+ * for gridprofile_read_line. The line begins with GP2 exactly where the rate point is present, and
+ * else with GP1. The image's first byte is not looked at, a kind over GRIDPROFILE_KIND_ABOVE is a
+ * frequency below nominal, and of a rate point that is absent neither limit nor delay is looked at.
+ * Refuses with 1 where one of the three lengths is another, then with 5 where the profile breaks a
+ * rule; *length is then as it was.
+ * Stack: 384 bytes. */
+uint8_t gridprofile_write_line(const uint8_t *table, size_t table_len, const uint8_t *profile,
+                               size_t profile_len, uint8_t *line, size_t line_len, size_t *length);
 
 /* Evaluates a line whose trip limits are written as formulas: writes the profile line with every
  * limit as a plain number at the front of GRIDPROFILE_LINE_MAX_BYTES lent bytes, and its length to
@@ -268,47 +306,56 @@ uint8_t gridprofile_write_line(const uint8_t *profile, size_t profile_len, uint8
  * made of numbers 0 to 1000000, N (the line's own nominal volts), + - * / and parentheses, without
  * spaces: at most 64 characters, and at most 8 pairs of parentheses around each other. * and / bind
  * before + and -, equals go from left to right, and / drops the remainder towards zero. A minus in
- * front stands only before a plain number. Refuses, in this order, with 1 where the input has more
- * than GRIDPROFILE_FORMULA_LINE_MAX_BYTES (it has no least length) or line_len is another; with 5
- * where the first line feed of the input is not its last byte or, with the limits left aside, it is
- * no profile line; then, limit after limit from the left, with 11 where one is no formula, or with
- * 12 where a divisor in it is 0 or the result of an operation is outside -2000000000 to 2000000000;
- * last with 5 where the number of a limit is outside its range. *length is then as it was.
+ * front stands only before a plain number. The table is the image of a class table, as for
+ * gridprofile_read_line. Refuses, in this order, with 1 where table_len or line_len is another or
+ * the input has more than GRIDPROFILE_FORMULA_LINE_MAX_BYTES (it has no least length); with 5 where
+ * the first line feed of the input is not its last byte or, with the limits left aside, it is no
+ * profile line under the table; then, limit after limit from the left, with 11 where one is no
+ * formula, or with 12 where a divisor in it is 0 or the result of an operation is outside
+ * -2000000000 to 2000000000; last with 5 where the number of a limit is outside its range. *length
+ * is then as it was.
  * Stack: 5376 bytes. */
-uint8_t gridprofile_evaluate_line(const uint8_t *input, size_t input_len, uint8_t *line,
-                                  size_t line_len, size_t *length);
+uint8_t gridprofile_evaluate_line(const uint8_t *table, size_t table_len, const uint8_t *input,
+                                  size_t input_len, uint8_t *line, size_t line_len,
+                                  size_t *length);
 
 /* Lists what a device would hold after the lines of an input: the input is cut after each line feed,
  * each line is stored as if it were signed and the device set to that line's own country, class and
- * hertz, refused lines and an unfinished last one are skipped. The listing, a header and then
- * country, class, hertz and serial of every stored profile once, stands at the front of
- * GRIDPROFILE_LISTING_BYTES lent bytes, and its length in *length; bytes past it are not touched.
- * Its rows ascend by country (first letter, then second), then by class, then by hertz, whatever
- * the order of the lines. An input of more than GRIDPROFILE_PREVIEW_MAX_BYTES gives only the text
- * "too long" and a line feed. Refuses with 1 where out_len is another; *length is then as it was.
- * Stack: 1856 bytes. */
-uint8_t gridprofile_preview(const uint8_t *input, size_t input_len, uint8_t *out, size_t out_len,
-                            size_t *length);
+ * hertz, refused lines and an unfinished last one are skipped. The table is the image of a class
+ * table, as for gridprofile_read_line. The listing, a header and then country, class, hertz and
+ * serial of every stored profile once, stands at the front of GRIDPROFILE_LISTING_BYTES lent bytes,
+ * and its length in *length; bytes past it are not touched. Its rows ascend by country (first
+ * letter, then second), then by class, then by hertz, whatever the order of the lines. An input of
+ * more than GRIDPROFILE_PREVIEW_MAX_BYTES gives only the text "too long" and a line feed. Refuses
+ * with 1 where table_len or out_len is another; *length is then as it was.
+ * Stack: 2240 bytes. */
+uint8_t gridprofile_preview(const uint8_t *table, size_t table_len, const uint8_t *input,
+                            size_t input_len, uint8_t *out, size_t out_len, size_t *length);
 
 /* Signs a profile line and writes its package, the signature and then the line, at the front of
  * GRIDPROFILE_PACKAGE_MAX_BYTES lent bytes, and its length to *length; bytes past it are not
- * touched. Seeds and salt are as for gridprofile_sign. Refuses with 1 where one of them or the
- * buffer has another length or the line has no line's length; with 5 where the line breaks a rule;
- * with 2 where a draw is short. *length is then as it was.
- * Stack: 69760 bytes. */
-uint8_t gridprofile_make_package(const uint8_t *private_seed, size_t private_seed_len,
+ * touched. Seeds and salt are as for gridprofile_sign. The table is the image of a class table, as
+ * for gridprofile_read_line; it is no part of the package, and should be that of the stores which
+ * the package is for. Refuses with 1 where one of these or the buffer has another length or the line
+ * has no line's length; with 5 where the line breaks a rule; with 2 where a draw is short. *length
+ * is then as it was.
+ * Stack: 69824 bytes. */
+uint8_t gridprofile_make_package(const uint8_t *table, size_t table_len,
+                                 const uint8_t *private_seed, size_t private_seed_len,
                                  const uint8_t *master_seed, size_t master_seed_len,
                                  const uint8_t *salt, size_t salt_len, const uint8_t *line,
                                  size_t line_len, uint8_t *package, size_t package_len,
                                  size_t *length);
 
 /* Loads a package into a store, on a device that is set to a country (two letters), a class (the
- * letter's number, 65 to 68) and the hertz of its network (50 or 60). A store is an image of
- * GRIDPROFILE_STORE_IMAGE_BYTES, GRIDPROFILE_STORE_SLOTS images of profiles, all zero when it is
- * empty; a slot whose first byte is 0 is free. A greater serial replaces the stored profile of its
- * country, class and hertz in its slot; where none is stored, the profile goes to a free slot, and
- * which one is open. No byte of another slot is written: profiles of 50 and of 60 hertz of one
- * country and class stand side by side, and their serials have nothing to do with each other.
+ * letter's number, one of the store's table: of the built-in ones 65 to 68) and the hertz of its
+ * network (50 or 60). A store is an image of GRIDPROFILE_STORE_IMAGE_BYTES, GRIDPROFILE_STORE_SLOTS
+ * images of profiles and the image of its class table, all zero when it is empty and has the
+ * built-in classes; a slot whose first byte is 0 is free. A greater serial replaces the stored
+ * profile of its country, class and hertz in its slot; where none is stored, the profile goes to a
+ * free slot, and which one is open. No byte of another slot or of the table is written: profiles of
+ * 50 and of 60 hertz of one country and class stand side by side, and their serials have nothing to
+ * do with each other.
  *
  * Lend it a copy of the store in RAM, never the one that must outlast a loss of power: it writes
  * GRIDPROFILE_PROFILE_IMAGE_BYTES of the image, and a loss of power in between would leave a mix of
@@ -316,22 +363,34 @@ uint8_t gridprofile_make_package(const uint8_t *private_seed, size_t private_see
  * tells whether it is whole, and act by the new profile only then; examples/banks.c shows how on
  * flash.
  *
- * Refuses, in this order, with 10 where country, class or hertz are none (a country of another
- * length too; class and hertz may be any numbers); with 1 where image or key have another length or
- * the package has not GRIDPROFILE_PACKAGE_MIN_BYTES to GRIDPROFILE_PACKAGE_MAX_BYTES; with 3, 2 and 4
- * as gridprofile_verify does; with 5 where the line breaks a rule; with 6 where the profile is for
- * another country, class or hertz; with 7 where its serial is not greater than the one stored for
- * these three; with 8 where nothing is stored for them and GRIDPROFILE_STORE_SLOTS others are.
+ * Refuses, in this order, with 10 where country or hertz are none or the class is none of the
+ * store's table (a country of another length too; class and hertz may be any numbers; an image of
+ * another length has the built-in classes); with 1 where image or key have another length or the
+ * package has not GRIDPROFILE_PACKAGE_MIN_BYTES to GRIDPROFILE_PACKAGE_MAX_BYTES; with 3, 2 and 4 as
+ * gridprofile_verify does; with 5 where the line breaks a rule under the store's table; with 6 where
+ * the profile is for another country, class or hertz; with 7 where its serial is not greater than
+ * the one stored for these three; with 8 where nothing is stored for them and
+ * GRIDPROFILE_STORE_SLOTS others are.
  * Stack: 16896 bytes. */
 uint8_t gridprofile_load(uint8_t *store, size_t store_len, const uint8_t *key, size_t key_len,
                          const uint8_t *package, size_t package_len, const uint8_t *country,
                          size_t country_len, uint32_t class_letter, uint32_t hertz);
 
+/* Loads a class table into a store that holds no profile: reads the file as gridprofile_read_table
+ * does, and writes its image at GRIDPROFILE_STORE_TABLE_OFFSET. No byte of a slot is written. While
+ * nothing is stored, a table may be loaded again, and replaces the one before; once a profile is
+ * stored, the table stays, so that no stored profile changes its class. Lend it a copy in RAM, as
+ * for gridprofile_load. Refuses with 1 where the image has another length; with 13 where the file
+ * breaks a rule; with 14 where the store holds a profile, whatever table it has.
+ * Stack: 512 bytes. */
+uint8_t gridprofile_load_table(uint8_t *store, size_t store_len, const uint8_t *file,
+                               size_t file_len);
+
 /* Writes the line of the profile that a store has for a country, class and hertz, and its length, as
- * gridprofile_write_line does. Refuses with 10 where country, class or hertz are none; with 1 where
- * image or buffer have another length; with 9 where nothing is stored for them; with 5 where what is
- * stored breaks a rule, which is never so in an image of zeros or in what loads made of one.
- * *length is then as it was.
+ * gridprofile_write_line does under the store's table. Refuses with 10 as gridprofile_load does;
+ * with 1 where image or buffer have another length; with 9 where nothing is stored for them; with 5
+ * where what is stored breaks a rule, which is never so in an image of zeros or in what loads made
+ * of one. *length is then as it was.
  * Stack: 384 bytes. */
 uint8_t gridprofile_lookup(const uint8_t *store, size_t store_len, const uint8_t *country,
                            size_t country_len, uint32_t class_letter, uint32_t hertz,

@@ -1,9 +1,10 @@
 /* Signed grid profiles at category 5: the sizes and functions that differ from category 1.
  *
- * A device is built for one category. What the category does not decide (answers, lines, images,
- * gridprofile_lookup, gridprofile_nearest, gridprofile_preview) stands in gridprofile.h, and what is
- * said there of slices, refusals and stack holds here too. Every function answers and refuses as the
- * one of category 1 does whose name it has, in the sizes below; its hash is SHAKE256. */
+ * A device is built for one category. What the category does not decide (answers, lines, class
+ * tables, images, gridprofile_lookup, gridprofile_nearest, gridprofile_preview) stands in
+ * gridprofile.h, and what is said there of slices, refusals and stack holds here too. Every function
+ * answers and refuses as the one of category 1 does whose name it has, in the sizes below; its hash
+ * is SHAKE256. */
 #ifndef GRIDPROFILE_CATEGORY5_H
 #define GRIDPROFILE_CATEGORY5_H
 
@@ -116,10 +117,12 @@ uint8_t gridprofile_category5_verify_round(const uint8_t *key, size_t key_len, c
 
 /* Signs a profile line and writes its package, the signature and then the line, at the front of
  * GRIDPROFILE_CATEGORY5_PACKAGE_MAX_BYTES lent bytes, and its length to *length; bytes past it are
- * not touched. Seeds and salt are as for gridprofile_category5_sign. Refuses with 1, 5 and 2;
+ * not touched. Seeds and salt are as for gridprofile_category5_sign, the table (the image of a class
+ * table, GRIDPROFILE_TABLE_IMAGE_BYTES) is as for gridprofile_make_package. Refuses with 1, 5 and 2;
  * *length is then as it was.
- * Stack: 253248 bytes. */
-uint8_t gridprofile_category5_make_package(const uint8_t *private_seed, size_t private_seed_len,
+ * Stack: 253312 bytes. */
+uint8_t gridprofile_category5_make_package(const uint8_t *table, size_t table_len,
+                                           const uint8_t *private_seed, size_t private_seed_len,
                                            const uint8_t *master_seed, size_t master_seed_len,
                                            const uint8_t *salt, size_t salt_len,
                                            const uint8_t *line, size_t line_len, uint8_t *package,

@@ -19,9 +19,11 @@ DAMAGED_STORE = 65
 SELF_CHECK_FAILED = 70
 NO_RANDOM_BYTES = 71
 FILE_TROUBLE = 74
-# A profile's image, a store's of 16 such, and the file that the program makes of that.
+# A profile's image, 16 such, a class table's, a store's of both, and the file that the program makes of that.
 PROFILE = 76
-IMAGE = 16 * PROFILE
+SLOTS = 16 * PROFILE
+TABLE = 316
+IMAGE = SLOTS + TABLE
 STORE = IMAGE + 32
 # The lengths that a line may have.
 LEAST_LINE, MOST_LINE = 42, 84
@@ -75,6 +77,9 @@ SHORTEST_RATE = b"GP2,XA,A,1,100,50,1001,20,1,20,1,20,-1,20,100,20\n"
 LONGEST_RATE = b"GP2,XA,D,4294967295,1000,60,1500,60000,999,60000,5000,60000,-5000,60000,10000,60000\n"
 # With the size of a public key of category 1.
 LINE_77 = LONGEST_RATE.replace(b"4294967295", b"123")
+# The class table of a railway, and a line that is one under it.
+RAILWAY = b"E,100,199\nM,200,400\nR,600,900\nT,950,1000\n"
+RAILWAY_LINE = b"GP1,XA,R,12,750,50,1150,100,800,1500,1500,100,-2500,100\n"
 # A frequency that there is not.
 BAD_LINE = LINE.replace(b",50,", b",55,")
 # What a device is set to that takes the first of these lines, as words of a command; and one at 60 Hz.
@@ -88,9 +93,11 @@ KINDS = {16: "a master seed of category 1", 24: "a master seed of category 3",
          48: "a private seed or a salt of category 3, or a profile line",
          64: "a private seed or a salt of category 5, or a profile line",
          77: "a public key of category 1, or a profile line", 115: "a public key of category 3",
-         153: "a public key of category 5", 1216: "a store without a checksum", 1248: "a store",
+         153: "a public key of category 5", 1532: "a store without a checksum", 1564: "a store",
          1024: "a store of the layout before rate points, without a checksum",
-         1056: "a store of the layout before rate points"}
+         1056: "a store of the layout before rate points",
+         1216: "a store of the layout before class tables, without a checksum",
+         1248: "a store of the layout before class tables"}
 # What of this a line is not.
 RIVALS = {size: KINDS[size].removesuffix(", or a profile line") for size in (48, 64, 77)}
 
@@ -133,6 +140,11 @@ def listing_of(rows):
     return "".join(row + "\n" for row in ("COUNTRY,CLASS,HERTZ,SERIAL", *rows)).encode()
 
 
+def held(count, classes="Its classes are the built-in ones.\n"):
+    """How `show` begins of a store with so many profiles."""
+    return f"A store with {count} of 16 profiles.\n{classes}"
+
+
 def shake(data, length):
     return hashlib.shake_128(data).digest(length)
 
@@ -157,9 +169,13 @@ REFUSALS = {1: ("size", "gridprofile help|--category|new-store|gridprofile evalu
             7: ("is not greater than", "greater serial|nothing can"),
             8: ("16 profiles are stored, none of them for this country, class and hertz", "another store"),
             9: ("nothing is stored for this country, class and hertz", "load a package .* other hertz"),
-            10: ("is not two letters .* or the hertz not 50 or 60", r"as in: XA B 50\."),
+            10: ("is not two letters .*, the class none of the store's, or hertz not 50 or 60",
+                 r"as in: XA [A-Z] 50; the (built-in )?classes (of this store )?are [A-Z]"),
             11: ("a limit is no formula", "correct the formula; `gridprofile help evaluate`"),
-            12: ("divides by 0, or a result", "correct the formula; `gridprofile help evaluate`")}
+            12: ("divides by 0, or a result", "correct the formula; `gridprofile help evaluate`"),
+            13: ("the class table breaks a rule of its file", "correct the table; `gridprofile help classes`"),
+            14: ("the store holds profiles, and a class table can be loaded only while it is empty",
+                 "another store by `gridprofile new-store`")}
 # The same of `nearest`, which is asked for no class.
 NEAREST_REFUSALS = {**REFUSALS,
                     9: (r"no stored profile of [A-Z]{2} and [56]0 Hz is within 40 V of the measured \d+ V",
@@ -315,8 +331,8 @@ int main(void)
 class Explained(Case):
     """Lines by the thousand, with the program's own files that say what is wrong with them."""
 
-    PARTS = ("explain.c", "kinds.c", "categories.c")
-    ANSWER = "gridprofile_read_line(line, length, out, GRIDPROFILE_PROFILE_IMAGE_BYTES)"
+    PARTS = ("explain.c", "kinds.c", "categories.c", "table.c")
+    ANSWER = "read_profile(line, length, out)"
     EXPLAIN = "explain_line(stdout, line, length)"
 
     @classmethod

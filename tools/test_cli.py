@@ -17,10 +17,11 @@ sys.path.insert(0, os.path.dirname(os.path.abspath(__file__)))
 from cli_case import (ARCHIVE, BAD_LINE, CATEGORIES, DAMAGED_STORE, DEVICE, DEVICE_60, FIFTH,  # noqa: E402
                       FILE_TROUBLE, FIRST, GIVEN, IMAGE, KINDS, LEAST_LINE, LINE, LINE_60, LINE_C, LONGEST,
                       LONGEST_RATE, MASTER, MEASURED, MOST_LINE, NO_RANDOM_BYTES, PREVIEW, PRIVATE, PROFILE, PROGRAM,
-                      RATE_LINE, ROOT, SALT, SELF_CHECK_FAILED, SHORTEST, SHORTEST_RATE, SIGNATURE, STORE, THIRD,
-                      WRONG_USAGE, Case, device_of, example, fingerprint, formats, line_of, listing_of, rows_of, sealed,
-                      shake)
+                      RAILWAY, RAILWAY_LINE, RATE_LINE, ROOT, SALT, SELF_CHECK_FAILED, SHORTEST, SHORTEST_RATE,
+                      SIGNATURE, SLOTS, STORE, TABLE, THIRD, WRONG_USAGE, Case, device_of, example, fingerprint,
+                      formats, held, line_of, listing_of, rows_of, sealed, shake)
 import test_cli_categories  # noqa: E402
+import test_cli_classes  # noqa: E402
 import test_cli_files  # noqa: E402
 import test_cli_formulas  # noqa: E402
 import test_cli_lines  # noqa: E402
@@ -269,7 +270,7 @@ class Load(Case):
         self.assertEqual(said, "Accepted: country XA, class B, 60 Hz, serial 1\nNothing was stored for this country, "
                          "class and hertz before.\n" + fingerprint(self.get("key")))
         shown = self.done("show", "store").decode()
-        self.assertEqual(shown, "A store with 2 of 16 profiles.\n" + WORDS + WORDS_60)
+        self.assertEqual(shown, held(2) + WORDS + WORDS_60)
         for line in (LINE, LINE_60):
             self.assertEqual(self.done("lookup", "store", *device_of(line)), line)
 
@@ -332,7 +333,7 @@ class Load(Case):
             accepted = f"Accepted: country {country}, class {letter}, {hertz} Hz, serial 12\nNothing "
             self.assertTrue(said.startswith(accepted), said)
         shown = self.done("show", "store").decode()
-        self.assertTrue(shown.startswith("A store with 16 of 16 profiles.\n"), shown)
+        self.assertTrue(shown.startswith(held(16)), shown)
         found = re.findall("^country (..), class (.), (..) Hz, serial 12$", shown, re.M)
         self.assertEqual([(country, letter, int(hertz)) for country, letter, hertz in found], sorted(triples))
 
@@ -475,7 +476,7 @@ class Damage(Case):
         load, lookup, show = self.readers("bare")
         self.put("bare", image)
         for words, printed in ((lookup, LINE), (["nearest", "bare", *MEASURED], suggestion(LINE, 230)),
-                               (show, b"A store with 1 of 16 profiles.\n" + WORDS.encode())):
+                               (show, (held(1) + WORDS).encode())):
             shown, said = self.warned(*words)
             self.assertEqual(shown, printed)
             self.assertIn("bare: this store has no checksum", said)
@@ -503,10 +504,10 @@ class Damage(Case):
 
     def test_every_slot_is_looked_at(self):
         image = self.get(self.store(LINE))[:IMAGE]
-        broken = (image[:PROFILE] if image[0] else image[-PROFILE:]).replace(b"\x32\0\0\0", b"\x33\0\0\0")
+        broken = image[image.index(b"\x01XAB"):][:PROFILE].replace(b"\x32\0\0\0", b"\x33\0\0\0")
         load, _, show = self.readers("bad")
         for slot in range(16):
-            self.put("bad", sealed(bytes(PROFILE * slot) + broken + bytes(PROFILE * (15 - slot))))
+            self.put("bad", sealed((bytes(PROFILE * slot) + broken).ljust(IMAGE, b"\0")))
             self.assertIn(f"slot {slot + 1} holds what no load leaves there".encode(), self.damaged(*load).stderr)
             self.assertIn(f"\nslot {slot + 1}: damaged, breaks a rule\n".encode(), self.damaged(*show).stdout)
         self.put("bad", self.get("bad")[:IMAGE] + bytes(32))
@@ -520,7 +521,7 @@ class Damage(Case):
         at, other = image.index(b"\x01XAB"), image.index(b"\x01XAC")
         wrong = [image[:at] + b"\0" + image[at + 1:], image[:at] + b"\x02" + image[at + 1:],
                  image[:other] + image[at:at + PROFILE] + image[other + PROFILE:],
-                 image[:at + 52] + b"\x03" + image[at + 53:], bytes(IMAGE - 1) + b"\x01"]
+                 image[:at + 52] + b"\x03" + image[at + 53:], bytes(SLOTS - 1) + b"\x01" + bytes(TABLE)]
         for point in ((2, 2000, 500), (256, 2000, 500), (0, 2000, 500), (0, 2000, 0), (0, 0, 500), (1, 99, 500),
                       (1, 10001, 500), (1, 2000, 19), (1, 2000, 60001), (1, 0, 0)):
             wrong.append(image[:at + 64] + struct.pack("<3I", *point) + image[at + PROFILE:])
@@ -551,7 +552,7 @@ class Damage(Case):
         for slots in ((one, other), (other, one), (other, bytes(PROFILE), one), (bytes(PROFILE) * 14, one, other)):
             image = b"".join(slots).ljust(IMAGE, b"\0")
             self.put("both", sealed(image))
-            self.assertTrue(self.done("show", "both").startswith(b"A store with 2 of 16 profiles.\n"))
+            self.assertTrue(self.done("show", "both").decode().startswith(held(2)))
             for line in (LINE, LINE_60):
                 self.assertEqual(self.done("lookup", "both", *device_of(line)), line)
             self.refused(9, "lookup", "both", "XA", "C", "60")
@@ -561,8 +562,8 @@ class Damage(Case):
 
     def test_full_store_of_both_hertz_is_sound(self):
         halves = [("X" + letter, hertz) for letter in "ABCDEFGH" for hertz in (60, 50)]
-        self.put("full", sealed(b"".join(image_of(*half) for half in halves)))
-        self.assertTrue(self.done("show", "full").startswith(b"A store with 16 of 16 profiles.\n"))
+        self.put("full", sealed(b"".join(image_of(*half) for half in halves) + bytes(TABLE)))
+        self.assertTrue(self.done("show", "full").decode().startswith(held(16)))
         for country, hertz in halves:
             self.assertEqual(self.done("lookup", "full", country, "B", str(hertz)), line_of(country, hertz=hertz))
         self.refused(9, "lookup", "full", "XI", "B", "50")
@@ -607,7 +608,8 @@ class Damage(Case):
         for volts, bad in ((230, image_of("X1")), (230, image_of(hertz=51)), (230, image_of(volts=271)),
                            (230, b"\0" + image_of()[1:]), (0, image_of(volts=2**32 - 1)),
                            (30, image_of(volts=2**32 - 10)), (2000, image_of(volts=2**31 + 2000))):
-            for data in (bad.ljust(IMAGE, b"\0"), sealed(bad.ljust(IMAGE, b"\0")), whole[:-PROFILE] + bad):
+            for data in (bad.ljust(IMAGE, b"\0"), sealed(bad.ljust(IMAGE, b"\0")),
+                         whole[:SLOTS - PROFILE] + bad + bytes(TABLE)):
                 country = "XB" if data.startswith(whole[:PROFILE]) else "XA"
                 self.damaged("nearest", self.put("bad", data), country, "50", str(volts))
         self.refused(9, "nearest", self.put("good", whole), "XB", "50", "230")
@@ -624,7 +626,7 @@ class Damage(Case):
 
     def test_store_of_a_wrong_size_may_be_damaged(self):
         whole = self.get(self.store(LINE))
-        for data in (whole[:1232], whole[:500], b"", whole + b"x"):
+        for data in (whole[:1548], whole[:500], b"", whole + b"x"):
             self.put("bad", data)
             for words in (["lookup", "bad", *DEVICE], ["nearest", "bad", *MEASURED]):
                 self.assertIn("If it was a store, it is damaged", self.refused(1, *words))
@@ -633,27 +635,29 @@ class Damage(Case):
 
 
 class Former(Case):
-    """Stores of the layout before rate points, with and without a checksum."""
+    """Stores of the layouts before rate points and before class tables, with and without a checksum."""
 
     IMAGE = struct.pack("<4B3I12I", 1, *b"XAB", 12, 230, 50, 0, 1150, 100, 0, 800, 1500, 1, 1500, 100, 2, 2500, 100)
     ADVICE = ("  What to do: a store of this layout is not converted: make a new one by `gridprofile new-store` and "
               "load its packages again.\n")
 
     def stores(self):
-        """One with a profile and an empty one."""
-        for image in (self.IMAGE + bytes(15 * 64), bytes(1024)):
+        """Of each layout one with a profile and an empty one."""
+        for image in (self.IMAGE + bytes(15 * 64), bytes(1024), image_of().ljust(SLOTS, b"\0"), bytes(SLOTS)):
             yield image
             yield sealed(image)
 
     def told(self, command, name, size):
         return (f"gridprofile {command}: refused with 1: a file has a wrong size\n  STORE ({name}) has {size} bytes, "
-                f"the size of {KINDS[size]}; it must have 1248 or 1216\n")
+                f"the size of {KINDS[size]}; it must have 1564 or 1532\n")
 
     def test_they_are_refused_with_1(self):
         self.package()
         for data in self.stores():
             self.put("old", data)
-            for command, *more in (("load", "key", "package", *DEVICE), ("lookup", *DEVICE), ("nearest", *MEASURED)):
+            self.put("table", RAILWAY)
+            for command, *more in (("load", "key", "package", *DEVICE), ("lookup", *DEVICE), ("nearest", *MEASURED),
+                                   ("classes",), ("classes", "table")):
                 for name, shown in (("old", "old"), ("-", "standard input")):
                     said = self.refused(1, command, name, *more, stdin=data)
                     self.assertEqual(said, self.told(command, shown, len(data)) + self.ADVICE)
@@ -661,32 +665,41 @@ class Former(Case):
                              f"{KINDS[len(data)]}, of which nothing is shown\n{self.ADVICE}")
 
     def test_the_advice_works(self):
-        self.package(), self.put("old", sealed(bytes(1024)))
-        self.assertIn("old: it exists; --force replaces it", self.troubled(FILE_TROUBLE, "new-store", "old"))
-        self.done("new-store", "old", "--force")
-        self.done("load", "old", "key", "package", *DEVICE)
-        self.assertEqual(self.done("lookup", "old", *DEVICE), LINE)
+        self.package()
+        for size in (1024, SLOTS):
+            self.put("old", sealed(bytes(size)))
+            self.assertIn("old: it exists; --force replaces it", self.troubled(FILE_TROUBLE, "new-store", "old"))
+            self.done("new-store", "old", "--force")
+            self.done("load", "old", "key", "package", *DEVICE)
+            self.assertEqual(self.done("lookup", "old", *DEVICE), LINE)
 
     def test_10_comes_before_1(self):
-        self.package(), self.put("old", sealed(bytes(1024)))
-        for device in (("XA", "E", "50"), ("XA", "B", "55")):
-            self.refused(10, "load", "old", "key", "package", *device)
-            self.refused(10, "lookup", "old", *device)
-        for measured in (("X", "50", "230"), ("XA", "55", "230"), ("XA", "50", "2001")):
-            self.refused(10, "nearest", "old", *measured)
+        self.package()
+        for size in (1024, SLOTS):
+            self.put("old", sealed(bytes(size)))
+            for device in (("XA", "E", "50"), ("XA", "B", "55")):
+                self.refused(10, "load", "old", "key", "package", *device)
+                self.refused(10, "lookup", "old", *device)
+            for measured in (("X", "50", "230"), ("XA", "55", "230"), ("XA", "50", "2001")):
+                self.refused(10, "nearest", "old", *measured)
 
     def test_other_files_of_a_wrong_size_are_named_too(self):
-        self.package(category=THIRD), self.put("old", sealed(bytes(1024)))
-        said = self.refused(1, "load", "old", "key", "package", *DEVICE)
-        self.assertEqual(re.findall("(?m)^  ([A-Z]+) .* has ", said), ["STORE", "KEY", "PACKAGE"])
-        self.assertTrue(said.endswith(" at category 1\n" + self.ADVICE), said)
+        self.package(category=THIRD)
+        for size in (1024, SLOTS):
+            self.put("old", sealed(bytes(size)))
+            said = self.refused(1, "load", "old", "key", "package", *DEVICE)
+            self.assertEqual(re.findall("(?m)^  ([A-Z]+) .* has ", said), ["STORE", "KEY", "PACKAGE"])
+            self.assertTrue(said.endswith(" at category 1\n" + self.ADVICE), said)
 
     def test_in_the_place_of_another_file(self):
         """They are named there too, but a new store would not help."""
-        self.package(), self.put("old", sealed(bytes(1024)))
-        said = self.refused(1, "verify", "old", "package")
-        self.assertIn(f"KEY (old) has 1056 bytes, the size of {KINDS[1056]}; it must have 77 at category 1\n", said)
-        self.assertIn("What to do: give the files in the order of the usage; ", said)
+        self.package()
+        for size in (1056, 1248):
+            self.put("old", bytes(size))
+            said = self.refused(1, "verify", "old", "package")
+            self.assertIn(f"KEY (old) has {size} bytes, the size of {KINDS[size]}; it must have 77 at category 1\n",
+                          said)
+            self.assertIn("What to do: give the files in the order of the usage; ", said)
 
 
 class Lookup(Case):
@@ -715,9 +728,9 @@ class Lookup(Case):
             self.assertEqual(self.done("lookup", "store", "XA", "B", "--", device_of(line)[2]), line)
 
     def test_wrong_sizes_are_1(self):
-        for size in (0, 1023, 1025, 1055, 1057, 1215, 1217, 1247, 1249):
+        for size in (0, 1023, 1025, 1055, 1057, 1215, 1217, 1247, 1249, 1531, 1533, 1563, 1565):
             said = self.refused(1, "lookup", self.put("bad", bytes(size)), *DEVICE)
-            self.assertIn("it must have 1248 or 1216\n", said)
+            self.assertIn("it must have 1564 or 1532\n", said)
 
 
 # Words for VOLTS that are none: over 2000, also those that cut to 32 or to 64 bits would be 230 or 0, and what is not
@@ -911,7 +924,7 @@ class Nearest(Case):
                 said = self.refused(10, "nearest", "bad", *measured)
                 self.assertEqual(len(said.splitlines()), 2, said)
             said = self.refused(1, "nearest", "bad", *MEASURED)
-            self.assertIn("it must have 1248 or 1216\n", said)
+            self.assertIn("it must have 1564 or 1532\n", said)
 
     def test_store_from_the_stream(self):
         store = self.get(self.store(LINE))
@@ -970,11 +983,11 @@ class Show(Case):
 
     def test_store(self):
         shown = self.done("show", self.store(LINE, LINE_C)).decode()
-        self.assertTrue(shown.startswith("A store with 2 of 16 profiles.\n"), shown)
+        self.assertTrue(shown.startswith(held(2)), shown)
         self.assertIn(WORDS, shown)
         self.assertIn("country XA, class C, 50 Hz, serial 5\n  nominal         400 V, 50 Hz\n", shown)
         self.assertIn("  under-voltage   85.0 % of nominal (340.000 V), after 1500 ms\n", shown)
-        self.assertEqual(self.done("show", self.store(name="empty")), b"A store with 0 of 16 profiles.\n")
+        self.assertEqual(self.done("show", self.store(name="empty")).decode(), held(0))
 
     def test_store_in_order(self):
         """By country, class and hertz, whichever slots hold the profiles and whatever their serials."""
@@ -983,7 +996,7 @@ class Show(Case):
         words = [self.done("show", self.put("line", line)).decode().partition("\n")[2] for line in lines]
         for order in itertools.permutations(lines):
             shown = self.done("show", self.put("store", store_of(*order))).decode()
-            self.assertEqual(shown, "A store with 5 of 16 profiles.\n" + "".join(words))
+            self.assertEqual(shown, held(5) + "".join(words))
 
     def test_damaged_slots_in_order(self):
         """A profile that breaks a rule is named by its slot, where it would be listed; of equals the first slot comes
@@ -1010,9 +1023,10 @@ class Show(Case):
             self.assertIn(f"\n  rate of change  {rate} mHz per second ({words} Hz/s), after 500 ms\n", shown)
 
     def test_other_sizes_are_1(self):
-        for size in (0, 41, 85, 114, 116, 152, 154, 1023, 1025, 1055, 1057, 1215, 1217, 1247, 1249, 19193, 19237, 42723,
-                     42767, 76339, 76383, 9999):
-            self.assertIn("bad has the size of no line", self.refused(1, "show", self.put("bad", bytes(size))))
+        for size in (0, 41, 85, 114, 116, 152, 154, 1023, 1025, 1055, 1057, 1215, 1217, 1247, 1249, 1531, 1533, 1563,
+                     1565, 19193, 19237, 42723, 42767, 76339, 76383, 9999):
+            self.assertIn("bad has the size of no line, key, store or package, and is no class table\n",
+                          self.refused(1, "show", self.put("bad", bytes(size))))
 
     def test_what_breaks_a_rule_is_5(self):
         package = self.get(self.package())[:SIGNATURE] + BAD_LINE
@@ -1180,8 +1194,9 @@ class Preview(Case):
 
 
 class Usage(Case):
-    COUNTS = {"new-key": (2, 2), "key": (2, 2), "sign": (3, 3), "verify": (2, 2), "new-store": (1, 1), "load": (6, 6),
-              "lookup": (4, 4), "nearest": (4, 4), "show": (1, 1), "preview": (0, 1), "evaluate": (0, 1)}
+    COUNTS = {"new-key": (2, 2), "key": (2, 2), "sign": (3, 3), "verify": (2, 2), "new-store": (1, 1),
+              "classes": (1, 2), "load": (6, 6), "lookup": (4, 4), "nearest": (4, 4), "show": (1, 1), "preview": (0, 1),
+              "evaluate": (0, 1)}
 
     def test_help(self):
         shown = self.done("help").decode()
@@ -1189,12 +1204,13 @@ class Usage(Case):
             self.assertEqual(self.done(*words).decode(), shown)
         for name in self.COUNTS:
             self.assertRegex(shown, rf"(?m)^  {name} ")
-        for number in range(1, 13):
+        for number in range(1, 15):
             self.assertRegex(shown, rf"(?m)^  {number:2}  \w")
+        self.assertLessEqual(max(len(line) for line in shown.splitlines()), 100)
         for number in (WRONG_USAGE, DAMAGED_STORE, SELF_CHECK_FAILED, NO_RANDOM_BYTES, FILE_TROUBLE):
             self.assertRegex(shown, rf"[;:]\s{number} ")
-        self.assertIn("\nCOUNTRY is two letters A to Z, CLASS one letter A to D, HERTZ 50 or 60, VOLTS 0 to 2000.\n",
-                      shown)
+        self.assertIn("\nCOUNTRY is two letters A to Z, CLASS a letter of the store's class table (A to D where it has "
+                      "the\nbuilt-in one), HERTZ 50 or 60, VOLTS 0 to 2000.\n", shown)
         self.assertIn("\nFor nearest, 9 is that no profile of COUNTRY and HERTZ is within 40 volts; 10 is ", shown)
         self.assertIn("\nFor evaluate, 1 is a line of more than 400 bytes, or a sheet of more than 65536.\n", shown)
 
@@ -1518,6 +1534,38 @@ class Firmware(Case):
                 said = b"verify answers %d\nload answers %d\n" % (answer, answer)
                 self.assertEqual((ran.returncode, ran.stdout[:len(said)]), (answer, said))
 
+    def railway(self, package, *more):
+        """How a device of the railway ends with a package, and what it says after it has left the factory."""
+        made = self.path("device")
+        self.build([made if word == self.PROGRAM else word for word in self.command] + ["-DRAILWAY", *more])
+        ran = subprocess.run([made], input=package, capture_output=True, check=False)
+        factory = b"loading the classes answers 0\ncommitted\ncommitted\n"
+        self.assertTrue(ran.stdout.startswith(factory), ran.stdout)
+        return ran.returncode, ran.stdout[len(factory):]
+
+    def test_device_with_a_class_table(self):
+        """It goes by the table that it got in the factory, in every category, and keeps it."""
+        for category in CATEGORIES:
+            package = self.get(test_cli_classes.railway_package(self, category=category))
+            said = b"verify answers 0\nload answers 0\ncommitted\nlookup answers 0\n" + RAILWAY_LINE + \
+                b"reading it answers 0\nnominal volts 750\nload of the same package again answers 7\n" \
+                b"loading the classes again answers 14\n"
+            self.assertEqual(self.railway(package, f"-DCATEGORY={category.number}"), (0, said))
+
+    def test_line_of_another_table_on_a_device_with_one(self):
+        """And the line of such a device on one that has none. While nothing is stored, a table may come again."""
+        said = b"verify answers 0\nload answers %d\nlookup answers 9\nload of the same package again answers %d\n"
+        self.assertEqual(self.railway(self.get(self.package())),
+                         (5, said % (5, 5) + b"loading the classes again answers 0\n"))
+        package = self.get(test_cli_classes.railway_package(self))
+        ran = subprocess.run([os.path.join(ROOT, self.PROGRAM)], input=package, capture_output=True, check=False)
+        self.assertEqual((ran.returncode, ran.stdout), (5, said % (5, 5)))
+
+    def test_table_of_the_firmware_is_the_example(self):
+        with open(os.path.join(ROOT, self.SOURCE), encoding="utf-8") as file:
+            text = re.search(r' table\[\] = "(.*)";', file.read()).group(1)
+        self.assertEqual(text.replace("\\n", "\n").encode(), example("railway.classes"))
+
     def test_flash_that_does_not_take_the_new_store(self):
         """The last byte of the second record is lost: the device goes on with the store that it had."""
         ran = self.with_other(self.TAKES, self.TAKES.replace("length", "length - bank"))
@@ -1567,7 +1615,10 @@ class Demo(Case):
                       b"\n$ gridprofile evaluate xa.sheet\n" + example("xa.lines"), b"It replaces serial 13.\n",
                       b"\n$ gridprofile evaluate wrong.sheet\ngridprofile evaluate: refused with 11: ",
                       b'; the first is line 2:\n  field 7, over-voltage, is "N*1.1*1000/N", with a decimal point',
-                      b"exit status 11\n",
+                      b"exit status 11\n", b"\n$ cat railway.classes\n" + RAILWAY,
+                      b"\nAccepted: a table of 4 classes: E, M, R and T.\n", b" XA R 50\n" + RAILWAY_LINE,
+                      held(1, "Its classes are its own:\n").encode(), b"refused with 14: ", b"exit status 14\n",
+                      b'\n  field 5, nominal volts, is "500", in a gap of the class table; ', b"exit status 5\n",
                       b"\n$ gridprofile verify key.5 xa-b.5.package --category 5\nThe signature holds", b"\nDone: "):
             self.assertIn(words, ran.stdout)
         self.assertEqual(self.names(), [])
@@ -1595,8 +1646,8 @@ class Result(unittest.TestResult):
 def main():
     load = unittest.defaultTestLoader.loadTestsFromModule
     result = Result()
-    modules = (sys.modules[__name__], test_cli_categories, test_cli_files, test_cli_formulas, test_cli_lines,
-               test_cli_safe)
+    modules = (sys.modules[__name__], test_cli_categories, test_cli_classes, test_cli_files, test_cli_formulas,
+               test_cli_lines, test_cli_safe)
     unittest.TestSuite([load(module) for module in modules]).run(result)
     bad = len(result.failures) + len(result.errors)
     print(f"program: {result.testsRun - bad} ok, {bad} failed")

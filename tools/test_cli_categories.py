@@ -451,8 +451,8 @@ class LineOrKey(Case):
 class Option(Case):
     TAKES = {"new-key": ["fresh", "fresh.key"], "key": ["private", "out"], "sign": ["private", "line", "out"],
              "verify": ["key", "package"], "load": ["store", "key", "package", *DEVICE]}
-    OTHERS = {"new-store": ["fresh"], "lookup": ["store", *DEVICE], "nearest": ["store", *MEASURED], "show": ["key"],
-              "preview": ["line"], "evaluate": ["line"]}
+    OTHERS = {"new-store": ["fresh"], "classes": ["store"], "lookup": ["store", *DEVICE],
+              "nearest": ["store", *MEASURED], "show": ["key"], "preview": ["line"], "evaluate": ["line"]}
 
     def wrong(self, what, *words):
         said = self.troubled(WRONG_USAGE, *words).splitlines()
@@ -507,7 +507,8 @@ class Option(Case):
         bounds = [one.signature + more for one in CATEGORIES for more in (LEAST_LINE, MOST_LINE)]
         self.assertIn(packages.format(*bounds), shown.replace(",\n           ", ", "))
         self.assertIn(f"\n  LINE     one profile line, {LEAST_LINE} to {MOST_LINE} bytes with its line feed ", shown)
-        self.assertIn(f"\n  STORE    16 profiles and a checksum, {STORE} bytes; {IMAGE} without the checksum\n", shown)
+        self.assertIn(f"\n  STORE    16 profiles, a class table and a checksum, {STORE} bytes; {IMAGE} without the "
+                      "checksum\n", shown)
         for line in shown.splitlines():
             self.assertLessEqual(len(line), 100)
 

@@ -12,7 +12,7 @@ import time
 import unittest
 
 from cli_case import (CATEGORIES, DAMAGED_STORE, DEVICE, FILE_TROUBLE, FIRST, GIVEN, IMAGE, LINE, MEASURED, PRIVATE,
-                      PROGRAM, STORE, WRONG_USAGE, Case, device_of, line_of, sealed)
+                      PROGRAM, RAILWAY, STORE, WRONG_USAGE, Case, device_of, line_of, sealed)
 
 NOBODY = 65534
 
@@ -28,6 +28,8 @@ def unprivileged():
 
 
 EMPTY = sealed(bytes(IMAGE))
+# Commands that change a file that must be there.
+CHANGES = ("load", "classes")
 SIGN = ("sign", "private", "line", "-", *GIVEN)
 
 
@@ -72,12 +74,13 @@ class Streams(Case):
 
     def test_output_that_cannot_be_written(self):
         self.store(LINE)
-        lines = self.put("lines", LINE)
+        lines, table = self.put("lines", LINE), self.put("table", RAILWAY)
         with open("/dev/full", "wb") as full:
             for words in (["key", "private", "-"], SIGN, ["new-store", "-"], ["lookup", "store", *DEVICE],
-                          ["nearest", "store", *MEASURED], ["show", "package"], ["preview", lines],
-                          ["evaluate", lines], ["verify", "key", "package"],
-                          ["load", "-", "key", "package", *DEVICE], ["help"], ["--version"], ["help", "sign"]):
+                          ["nearest", "store", *MEASURED], ["show", "package"], ["show", table], ["preview", lines],
+                          ["evaluate", lines], ["verify", "key", "package"], ["classes", "store"],
+                          ["classes", "-", table], ["load", "-", "key", "package", *DEVICE], ["help"], ["--version"],
+                          ["help", "sign"]):
                 self.troubled(FILE_TROUBLE, *words, stdin=EMPTY, stdout=full)
 
     def test_new_key_that_cannot_be_printed(self):
@@ -88,15 +91,16 @@ class Streams(Case):
         self.assertIn(b"fresh: the private seed is written; `gridprofile key` makes its key", ran.stderr)
 
     def test_bytes_are_not_written_to_a_terminal(self):
-        self.package()
+        self.package(), self.put("table", RAILWAY)
         controller, terminal = pty.openpty()
         self.addCleanup(os.close, controller)
         with os.fdopen(terminal, "wb") as out:
             for words in (["key", "private", "-"], SIGN, ["new-store", "-"], ["new-key", "fresh", "-"],
-                          ["load", "-", "key", "package", *DEVICE]):
+                          ["load", "-", "key", "package", *DEVICE], ["classes", "-", "table"]):
                 said = self.troubled(WRONG_USAGE, *words, stdin=EMPTY, stdout=out)
                 self.assertIn("standard output is a terminal", said)
-            self.assertEqual(self.run_in("show", "key", stdout=out).returncode, 0)
+            for words in (["show", "key"], ["classes", "-"]):
+                self.assertEqual(self.run_in(*words, stdin=EMPTY, stdout=out).returncode, 0)
 
     def test_stream_by_the_name_of_a_device(self):
         self.package()
@@ -121,11 +125,14 @@ class Streams(Case):
                 self.assertIn("what was asked for is done", said)
                 self.assertNotEqual(self.get(f"out{at}"), b"")
             self.warned("load", "store", "key", "package", *DEVICE, stdout=full)
+            self.warned("classes", self.store(name="railway"), self.put("table", RAILWAY), stdout=full)
         self.assertEqual(self.done("lookup", "store", *DEVICE), LINE)
+        self.assertEqual(self.done("classes", "railway"), RAILWAY)
 
     def test_reader_that_goes_away(self):
         self.key(), self.package(), self.store(LINE)
-        for words in (SIGN, ["show", "package"], ["nearest", "store", *MEASURED], ["evaluate", "line"]):
+        for words in (SIGN, ["show", "package"], ["nearest", "store", *MEASURED], ["evaluate", "line"],
+                      ["classes", "store"]):
             reading, writing = os.pipe()
             os.close(reading)
             with os.fdopen(writing, "wb") as gone:
@@ -135,7 +142,9 @@ class Streams(Case):
         self.key(), self.package(), self.store()
         for stream, words in ((0, ["key", "-", "out"]), (0, ["nearest", "-", *MEASURED]), (1, ["key", "private", "-"]),
                               (1, ["show", "package"]), (1, ["nearest", self.store(LINE, name="held"), *MEASURED]),
-                              (0, ["evaluate"]), (0, ["evaluate", "-"]), (1, ["evaluate", "line"])):
+                              (0, ["evaluate"]), (0, ["evaluate", "-"]), (1, ["evaluate", "line"]),
+                              (0, ["classes", "-"]), (0, ["classes", "store", "-"]), (1, ["classes", "store"]),
+                              (0, ["evaluate", "line", "--classes", "-"])):
             self.troubled(FILE_TROUBLE, *words, stdin=None, preexec_fn=lambda at=stream: os.close(at))
         said = self.troubled(FILE_TROUBLE, "load", "store", "key", "-", *DEVICE, stdin=None,
                              preexec_fn=lambda: os.close(0))
@@ -155,10 +164,12 @@ class Streams(Case):
 class Inputs(Case):
     def every_input(self):
         """Every command with a place for each input."""
-        self.package(), self.store()
-        whole = (["key", "private", "-"], SIGN, ["verify", "key", "package"],
-                 ["load", "store", "key", "package", *DEVICE], ["lookup", "store", *DEVICE],
-                 ["nearest", "store", *MEASURED], ["show", "package"], ["preview", "line"], ["evaluate", "line"])
+        self.package(), self.store(), self.put("table", RAILWAY)
+        option = ["--classes", "table"]
+        whole = (["key", "private", "-"], [*SIGN, *option], ["verify", "key", "package", *option],
+                 ["load", "store", "key", "package", *DEVICE], ["classes", "store", "table"], ["classes", "store"],
+                 ["lookup", "store", *DEVICE], ["nearest", "store", *MEASURED], ["show", "package", *option],
+                 ["preview", "line", *option], ["evaluate", "line", *option])
         for words in whole:
             for at, word in enumerate(words[1:], 1):
                 if os.path.exists(self.path(word)):
@@ -167,8 +178,8 @@ class Inputs(Case):
     def test_missing_files(self):
         for words, at in self.every_input():
             said = self.troubled(FILE_TROUBLE, *words[:at], "missing", *words[at + 1:])
-            told = "cannot load into missing: there is no such store" if (words[0], at) == ("load", 1) else \
-                "cannot read missing: No such file"
+            loads = at == 1 and (words[0] == "load" or words[0] == "classes" and len(words) == 3)
+            told = "cannot load into missing: there is no such store" if loads else "cannot read missing: No such file"
             self.assertIn(told, said)
 
     def test_directories(self):
@@ -200,7 +211,8 @@ class Inputs(Case):
         before = self.get("shut/store"), os.stat(self.path("shut/store")), os.stat(self.path("shut"))
         for status, words in ((0, ["lookup", "shut/store", *DEVICE]), (0, ["nearest", "shut/store", *MEASURED]),
                               (9, ["nearest", "shut/store", "XA", "60", "230"]),
-                              (10, ["nearest", "shut/store", "XA", "50", "2001"]), (0, ["show", "shut/store"])):
+                              (10, ["nearest", "shut/store", "XA", "50", "2001"]), (0, ["show", "shut/store"]),
+                              (0, ["classes", "shut/store"])):
             ran = subprocess.run([program, *words], cwd=self.folder, capture_output=True, check=False, **unprivileged())
             self.assertEqual((ran.returncode, ran.stderr == b""), (status, status == 0), ran.stderr)
             after = self.get("shut/store"), os.stat(self.path("shut/store")), os.stat(self.path("shut"))
@@ -212,14 +224,14 @@ class Outputs(Case):
     """Files are written whole or not at all."""
 
     def writers(self, name):
-        """Every command that writes a file; `load` changes one that must be there."""
-        self.key(), self.package()
+        """Every command that writes a file; the last two change one that must be there."""
+        self.key(), self.package(), self.put("table", RAILWAY)
         return (["new-key", "fresh", name], ["key", "private", name], ["sign", "private", "line", name],
-                ["new-store", name], ["load", name, "key", "package", *DEVICE])
+                ["new-store", name], ["load", name, "key", "package", *DEVICE], ["classes", name, "table"])
 
     def test_nothing_but_the_file_is_left(self):
         for words in self.writers("out"):
-            if words[0] == "load":
+            if words[0] in CHANGES:
                 self.store(name="out")
             before = set(self.names())
             self.done(*words)
@@ -239,6 +251,7 @@ class Outputs(Case):
         self.store(LINE)
         newer = self.package(line_of(serial=13))
         self.troubled(FILE_TROUBLE, "load", "store", "key", newer, *DEVICE, preexec_fn=no_file_may_grow)
+        self.troubled(FILE_TROUBLE, "classes", self.store(name="empty"), "table", preexec_fn=no_file_may_grow)
 
     def test_missing_folder(self):
         for name in ("missing/out", "key/out", ""):
@@ -285,7 +298,7 @@ class Outputs(Case):
         os.symlink("nothing", self.path("dangling"))
         for name in ("folder", "pipe", "dangling", "/dev/null", "/dev/full"):
             for words in self.writers(name):
-                options = [] if words[0] == "load" else ["--force"]
+                options = [] if words[0] in CHANGES else ["--force"]
                 self.troubled(FILE_TROUBLE, *words, *options)
         self.assertTrue(stat.S_ISCHR(os.stat("/dev/null").st_mode))
 
@@ -313,13 +326,14 @@ class Outputs(Case):
         program = shutil.copy(PROGRAM, self.path("program"))
         os.mkdir(self.path("shut"))
         os.chmod(self.path("shut"), 0o555)
-        cases = [words for words in self.writers("shut/out") if words[0] not in ("load", "new-key")]
+        cases = [words for words in self.writers("shut/out") if words[0] not in (*CHANGES, "new-key")]
         os.mkdir(self.path("open"))
         self.put("open/locked", EMPTY)
         os.chmod(self.path("open"), 0o777)
         os.chmod(self.path("open/locked"), 0o444)
         os.chmod(self.path("private"), 0o644)
         cases.append(["load", "open/locked", "key", "package", *DEVICE])
+        cases.append(["classes", "open/locked", "table"])
         cases.append(["new-store", "open/locked", "--force"])
         cases.append(["new-key", "shut/fresh", "open/key"])
         for words in cases:
@@ -346,7 +360,7 @@ class Outputs(Case):
     def test_folder_that_cannot_be_read(self):
         """It cannot be locked then: only a load, which changes what is there, must have the lock."""
         program = shutil.copy(PROGRAM, self.path("program"))
-        self.package()
+        self.package(), self.put("table", RAILWAY)
         os.chmod(self.path("private"), 0o644)
         os.mkdir(self.path("drop"))
         self.put("drop/store", EMPTY)
@@ -354,6 +368,7 @@ class Outputs(Case):
             os.chown(self.path("drop/store"), NOBODY, NOBODY)
         os.chmod(self.path("drop"), 0o333)
         for status, words in ((0, ["key", "private", "drop/key"]), (0, ["sign", "private", "line", "drop/package"]),
+                              (FILE_TROUBLE, ["classes", "drop/store", "table"]),
                               (FILE_TROUBLE, ["load", "drop/store", "key", "package", *DEVICE])):
             ran = subprocess.run([program, *words], cwd=self.folder, capture_output=True, check=False, **unprivileged())
             self.assertEqual(ran.returncode, status, (words, ran.stderr))
@@ -373,7 +388,7 @@ class Outputs(Case):
     def replaced(self):
         """Every command that replaces a file, over one that has this owner and these permissions."""
         for words in self.writers("out"):
-            if words[0] == "load":
+            if words[0] in CHANGES:
                 self.store(name="out")
             else:
                 self.put("out", b"")
@@ -581,7 +596,8 @@ class Secrets(Memory):
 
     def test_crash_leaves_no_core(self):
         """Also where a seed is given by mistake. Memory that must not be dumped belongs to root, whoever runs it."""
-        for words in (["key", "-", "out"], ["verify", "-", "package"], ["show", "-"], ["preview"], ["evaluate"]):
+        for words in (["key", "-", "out"], ["verify", "-", "package"], ["show", "-"], ["preview"], ["evaluate"],
+                      ["classes", "-"], ["evaluate", "/dev/null", "--classes", "-"]):
             self.start(*words, **unprivileged())
             wait_for(lambda: call_of(self.process) == READS_INPUT)
             self.assertEqual(os.stat(f"/proc/{self.process.pid}/mem").st_uid, 0)
@@ -593,7 +609,7 @@ class Secrets(Memory):
         for category in CATEGORIES:
             private, master = hidden(category)
             self.package(private=private, master=master, category=category)
-            self.put("long", private + master)
+            self.put("long", private + master), self.put("store", EMPTY), self.put("table", RAILWAY)
             for words in self.commands_with_seeds():
                 for asked in CATEGORIES if words[0] in ("key", "sign", "verify") else (None,):
                     ran = self.run_in(*words, *(asked.option() if asked else ()))
@@ -609,7 +625,12 @@ class Secrets(Memory):
                 ["verify", "private", "package"], ["verify", "key", "private"], ["lookup", "private", *DEVICE],
                 ["nearest", "private", *MEASURED], ["nearest", "long", *MEASURED],
                 ["show", "long"], ["show", "private"], ["show", "master"], ["preview", "private"],
-                ["evaluate", "private"], ["evaluate", "master"], ["evaluate", "long"])
+                ["evaluate", "private"], ["evaluate", "master"], ["evaluate", "long"], ["classes", "private"],
+                ["classes", "store", "private"], ["classes", "store", "master"], ["classes", "store", "long"],
+                ["sign", "private", "line", "-", "--classes", "private"],
+                ["verify", "key", "package", "--classes", "master"],
+                ["show", "line", "--classes", "private"], ["show", "private", "--classes", "table"],
+                ["preview", "private", "--classes", "table"], ["evaluate", "private", "--classes", "long"])
 
     def check_not_said(self, seeds, said, words):
         for seed in seeds:

@@ -534,7 +534,7 @@ class Formulas(Explained):
     """The library and what is said of a line beside the rules above."""
 
     PARTS = (*Explained.PARTS, "formulas.c")
-    ANSWER = "(used = 0, gridprofile_evaluate_line(line, length, out, sizeof out, &used))"
+    ANSWER = "(used = 0, gridprofile_evaluate_line(classes, sizeof classes, line, length, out, sizeof out, &used))"
     EXPLAIN = "explain_formulas(stdout, answer, (struct part){line, length})"
 
     def agree(self, lines):

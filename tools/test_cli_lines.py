@@ -2,11 +2,13 @@
 thousands of lines that are wrong in one way or in several; and what `preview` says of the lines that it skips."""
 
 import base64
+import contextlib
 import itertools
 import os
 import random
 import re
 import subprocess
+from unittest import mock
 
 from cli_case import (BAD_LINE, LEAST_LINE, LINE, LINE_60, LINE_77, LINE_C, LONGEST, LONGEST_RATE, MOST_LINE, PREVIEW,
                       RATE_LINE, RIVALS, SHORTEST, SHORTEST_RATE, Case, Explained, line_of, listing_of, rows_of)
@@ -23,7 +25,7 @@ SHARE = "thousandths of nominal"
 FIELDS = [
     ("tag", rb"GP1|GP2", None, "GP1 or GP2"),
     ("country", rb"[A-Z][A-Z]", None, "two letters A to Z"),
-    ("class", rb"[ABCD]", None, "A (100 to 139 V), B (140 to 259), C (260 to 519) or D (520 to 1000)"),
+    ("class", rb"[ABCD]", None, "A (100 to 139 V), B (140 to 259), C (260 to 519) or D (520 to 1000)"),  # see `under`
     ("serial", WHOLE, range(1, 4294967296), "1 to 4294967295"),
     ("nominal volts", WHOLE, range(100, 1001), "100 to 1000"),
     ("hertz", rb"50|60", None, "50 or 60"),
@@ -43,6 +45,29 @@ NUMBERS = {b"GP1": 14, b"GP2": 16}
 VOLTS_OF = {b"A": range(100, 140), b"B": range(140, 260), b"C": range(260, 520), b"D": range(520, 1001)}
 
 
+@contextlib.contextmanager
+def under(volts_of):
+    """What these rules are under another class table, for so long."""
+    names = [f"{letter.decode()} ({volts[0]} to {volts[-1]}" for letter, volts in volts_of.items()]
+    *first, last = [names[0] + " V)", *(name + ")" for name in names[1:])]
+    must = f"{', '.join(first)} or {last}" if first else last
+    if len(names) > 8:
+        must = "one of " + " and ".join(b", ".join(volts_of).decode().rsplit(", ", 1))
+    field = "class", b"[" + b"".join(volts_of) + b"]", None, must
+    before = FIELDS[2]
+    with mock.patch.dict(VOLTS_OF, volts_of, clear=True):
+        FIELDS[2] = field
+        try:
+            yield
+        finally:
+            FIELDS[2] = before
+
+
+def class_of(volts):
+    """The class of a field of volts that keeps its rule; None in a gap."""
+    return next((letter for letter, span in VOLTS_OF.items() if int(volts) in span), None)
+
+
 def fits(at, field):
     """Whether a field keeps its rule, without a look at the others."""
     _, form, span, _ = FIELDS[at]
@@ -54,7 +79,9 @@ def first_broken(fields):
     for at in range(NUMBERS.get(fields[0], 16)):
         if at >= len(fields) or not fits(at, fields[at]):
             return at + 1
-        if at == 2 and len(fields) > 4 and fits(4, fields[4]) and int(fields[4]) not in VOLTS_OF[fields[2]]:
+        if at == 2 and len(fields) > 4 and fits(4, fields[4]) and class_of(fields[4]) not in (fields[2], None):
+            return at + 1
+        if at == 4 and class_of(fields[4]) is None:
             return at + 1
     return None
 
@@ -127,9 +154,9 @@ def unquoted(text):
 def class_said(said, line):
     """What is said of a class that does not fit its volts, each of which is good."""
     fields = body(line).split(b",")
-    found = re.fullmatch(r'"([A-D])", but (\d+) volts are of class ([A-D])', said)
+    found = re.fullmatch(r'"([A-Z])", but (\d+) volts are of class ([A-Z])', said)
     return (found and found[1].encode() == fields[2] and found[2].encode() == fields[4]
-            and int(found[2]) in VOLTS_OF[found[3].encode()])
+            and found[3].encode() == class_of(fields[4]) and fits(2, fields[2]))
 
 
 def field_said(said, line):
@@ -140,6 +167,9 @@ def field_said(said, line):
         return None
     if at == 2 and " volts are of class " in rest:
         return at + 1 if class_said(rest, line) else None
+    if at == 4 and ", in a gap of the class table" in rest:
+        right = rest == f'"{fields[4].decode()}", in a gap of the class table; it must be in {FIELDS[2][3]}'
+        return at + 1 if right and fits(4, fields[4]) else None
     what, must = rest.rsplit("; it must be ", 1)
     quote = re.match(QUOTED, what)
     if quote is None:

@@ -14,8 +14,9 @@ import threading
 import time
 
 from cli_case import (ARCHIVE, CATEGORIES, DEVICE, FIFTH, FILE_TROUBLE, FIRST, GIVEN, IMAGE, KINDS, LINE, LINE_77,
-                      LINE_C, MEASURED, NO_RANDOM_BYTES, PRIVATE, PROGRAM, ROOT, SALT, SELF_CHECK_FAILED, SIGNATURE,
-                      STORE, WRONG_USAGE, Case, fingerprint, line_of, listing_of, sealed, shake)
+                      LINE_C, MEASURED, NO_RANDOM_BYTES, PRIVATE, PROGRAM, RAILWAY, RAILWAY_LINE, ROOT, SALT,
+                      SELF_CHECK_FAILED, SIGNATURE, STORE, WRONG_USAGE, Case, fingerprint, line_of, listing_of, sealed,
+                      shake)
 from test_cli_files import HIDDEN, NOBODY, READS_INPUT, WRITES_OUTPUT, Memory, call_of, hidden, wait_for
 
 EMPTY = sealed(bytes(IMAGE))
@@ -184,9 +185,9 @@ static uint8_t spoil_package(uint8_t answer, const uint8_t *seed, size_t seed_le
 }
 
 #define KEY_ARGUMENTS const uint8_t *seed, size_t seed_length, uint8_t *key, size_t room
-#define PACKAGE_ARGUMENTS const uint8_t *seed, size_t seed_length, const uint8_t *master, size_t master_length,       \
-    const uint8_t *salt, size_t salt_length, const uint8_t *line, size_t line_length, uint8_t *package, size_t room,  \
-    size_t *length
+#define PACKAGE_ARGUMENTS const uint8_t *table, size_t table_length, const uint8_t *seed, size_t seed_length,         \
+    const uint8_t *master, size_t master_length, const uint8_t *salt, size_t salt_length, const uint8_t *line,        \
+    size_t line_length, uint8_t *package, size_t room, size_t *length
 #define WRAP(names)                                                                                                   \
     uint8_t __real_##names##make_key(KEY_ARGUMENTS);                                                                  \
     uint8_t __wrap_##names##make_key(KEY_ARGUMENTS);                                                                  \
@@ -198,8 +199,8 @@ static uint8_t spoil_package(uint8_t answer, const uint8_t *seed, size_t seed_le
     uint8_t __wrap_##names##make_package(PACKAGE_ARGUMENTS);                                                          \
     uint8_t __wrap_##names##make_package(PACKAGE_ARGUMENTS)                                                           \
     {                                                                                                                 \
-        uint8_t answer = __real_##names##make_package(seed, seed_length, master, master_length, salt, salt_length,    \
-                                                      line, line_length, package, room, length);                      \
+        uint8_t answer = __real_##names##make_package(table, table_length, seed, seed_length, master, master_length,  \
+                                                      salt, salt_length, line, line_length, package, room, length);   \
         return spoil_package(answer, seed, seed_length, master, master_length, package);                              \
     }
 WRAP(gridprofile_)
@@ -645,12 +646,13 @@ class Existing(Case):
 
     def test_seeds_keys_and_stores_are_never_replaced_by_something_else(self):
         """Those of every category, whichever is asked for; a line may have the size of a seed or of a key. A new store
-        replaces one of the former layout too."""
-        own = {"key": (77, 115, 153), "new key": (77, 115, 153), "package": (), "store": (1024, 1056, 1216, 1248)}
+        replaces one of a former layout too."""
+        own = {"key": (77, 115, 153), "new key": (77, 115, 153), "package": (),
+               "store": (1024, 1056, 1216, 1248, 1532, 1564)}
         lines = {64: line_of(serial=1234567890), 77: LINE_77}
         for category in CATEGORIES:
             for kind, words in self.writers(category).items():
-                for size in (16, 24, 32, 48, 64, 77, 115, 153, 1024, 1056, 1216, 1248):
+                for size in (16, 24, 32, 48, 64, 77, 115, 153, 1024, 1056, 1216, 1248, 1532, 1564):
                     old = self.get(self.put("out", lines.get(size, bytes(size))))
                     if size in own[kind]:
                         self.done(*words, "--force")
@@ -748,12 +750,13 @@ class Terminal(Case):
                       ["key", self.NAME, "out"], ["key", "private", self.NAME], ["key", self.NAME, self.NAME],
                       ["key", b"-" + self.NAME], [self.NAME], ["help", self.NAME],
                       ["new-store", "new", "--wait", self.NAME], ["key", "private", "new", "--category", self.NAME],
+                      ["show", "line", "--classes", b"no" + self.NAME], ["classes", self.NAME],
                       ["sign", "private", "line", "new", "--key", self.NAME]):
             said = self.run_in(*words).stderr
             self.assertIn(self.SHOWN, said, words)
             self.assertNotRegex(said, rb"[\x00-\x09\x0b-\x1f\x7f]|\xc2[\x80-\x9f]")
         os.rename(self.path("store"), self.path(os.fsdecode(self.NAME)))
-        for words in (["lookup", self.NAME, *DEVICE], ["nearest", self.NAME, *MEASURED]):
+        for words in (["lookup", self.NAME, *DEVICE], ["nearest", self.NAME, *MEASURED], ["classes", self.NAME]):
             self.assertIn(b"the store " + self.SHOWN + b" is damaged", self.run_in(*words).stderr)
 
     def test_lines_are_said_whole(self):
@@ -779,9 +782,9 @@ class Locks(Case):
             self.addCleanup(timer.join)
 
     def writers(self):
-        self.package(), self.store()
+        self.package(), self.store(), self.put("table", RAILWAY)
         return (["load", "store", "key", "package", *DEVICE], ["key", "private", "out"], ["new-store", "empty"],
-                ["sign", "private", "line", "signed"], ["new-key", "fresh", "fresh.key"])
+                ["sign", "private", "line", "signed"], ["new-key", "fresh", "fresh.key"], ["classes", "store", "table"])
 
     def test_lock_is_waited_for_so_long(self):
         writers = self.writers()
@@ -890,7 +893,7 @@ class Locks(Case):
         self.lock()
         self.assertEqual(self.done("lookup", "store", *DEVICE), LINE)
         self.assertTrue(self.done("nearest", "store", *MEASURED).startswith(LINE))
-        self.done("show", "store")
+        self.done("show", "store"), self.done("classes", "store")
 
     def test_only_left_over_files_are_removed(self):
         self.put("private", PRIVATE)
@@ -937,6 +940,12 @@ class SmallStack(Case):
             self.assertEqual(self.done("preview", "line", **small), listing_of(["XA,B,50,12"]))
             self.assertEqual(self.done("evaluate", "line", **small), LINE)
             self.refused(11, "evaluate", self.put("bad", LINE.replace(b",800,", b",(((((((((8,")), **small)
+            self.done("new-store", name + "railway", **small)
+            self.done("classes", name + "railway", self.put("table", RAILWAY), **small)
+            self.assertEqual(self.done("classes", name + "railway", **small), RAILWAY)
+            self.put("railway", RAILWAY_LINE)
+            self.done("sign", "private", "railway", name + "signed", "--classes", "table", *option, **small)
+            self.done("load", name + "railway", "key", name + "signed", "XA", "R", "50", *option, **small)
 
 
 class Many(Case):

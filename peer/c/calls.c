@@ -58,6 +58,9 @@ static void hashing(const char *prefix)
     expect(prefix, "shake256", 0, 0, out, wanted_256, sizeof out);
 }
 
+/* The table of the built-in classes. */
+static const uint8_t built_in[GRIDPROFILE_TABLE_IMAGE_BYTES];
+
 static const char line[] = "GP1,XA,B,12,230,50,1150,100,800,1500,1500,100,-2500,100\n";
 
 /* The same with a rate point and a greater serial. */
@@ -75,11 +78,13 @@ static void one_line(const char *prefix, const char *text, size_t text_len, uint
     uint8_t profile[GRIDPROFILE_PROFILE_IMAGE_BYTES], out[GRIDPROFILE_LINE_MAX_BYTES];
     const uint8_t head[5] = {1, 'X', 'A', 'B', serial};
     size_t length = 0;
-    int answer = gridprofile_read_line((const uint8_t *)text, text_len, profile, sizeof profile);
+    int answer = gridprofile_read_line(built_in, sizeof built_in, (const uint8_t *)text, text_len,
+                                       profile, sizeof profile);
     expect(prefix, "read_line", answer, GRIDPROFILE_DONE, profile, head, sizeof head);
     expect(prefix, "read_line's rate point", answer, GRIDPROFILE_DONE,
            profile + GRIDPROFILE_RATE_OFFSET, rate, GRIDPROFILE_TRIP_BYTES);
-    answer = gridprofile_write_line(profile, sizeof profile, out, sizeof out, &length);
+    answer = gridprofile_write_line(built_in, sizeof built_in, profile, sizeof profile, out,
+                                    sizeof out, &length);
     expect(prefix, "write_line", answer, GRIDPROFILE_DONE, out, (const uint8_t *)text, length);
     expect_length(length, text_len);
 }
@@ -99,8 +104,8 @@ static void expect_evaluated(const char *prefix, const char *name, const char *i
 {
     uint8_t out[GRIDPROFILE_LINE_MAX_BYTES] = {0}, bytes[GRIDPROFILE_LINE_MAX_BYTES] = {0};
     size_t length = 0;
-    int answer = gridprofile_evaluate_line((const uint8_t *)input, strlen(input), out, room,
-                                           &length);
+    int answer = gridprofile_evaluate_line(built_in, sizeof built_in, (const uint8_t *)input,
+                                           strlen(input), out, room, &length);
     memcpy(bytes, text, strlen(text));
     expect(prefix, name, answer, wanted, out, bytes, sizeof out);
     expect_length(length, strlen(text));
@@ -155,10 +160,104 @@ static void listing(const char *prefix)
                                  "XB,B,60,9\n";
     uint8_t out[GRIDPROFILE_LISTING_BYTES] = {0};
     size_t length = 0;
-    int answer = gridprofile_preview((const uint8_t *)input, sizeof input - 1, out, sizeof out, &length);
+    int answer = gridprofile_preview(built_in, sizeof built_in, (const uint8_t *)input,
+                                     sizeof input - 1, out, sizeof out, &length);
     expect(prefix, "preview", answer, GRIDPROFILE_DONE, out, (const uint8_t *)wanted,
            sizeof wanted - 1);
     expect_length(length, sizeof wanted - 1);
+}
+
+/* The file of a class table, and a line of a class that it has, with formulas and without. */
+static const char railway[] = "E,100,199\nM,200,400\nR,600,900\nT,950,1000\n";
+static const char railway_line[] = "GP1,XA,R,12,750,50,1150,100,800,1500,1500,100,-2500,100\n";
+static const char railway_formulas[] =
+    "GP1,XA,R,12,750,50,N+400,100,N+50,1500,N*2,100,0-N*3-250,100\n";
+static uint8_t railway_table[GRIDPROFILE_TABLE_IMAGE_BYTES];
+
+/* A file that is read, or refused: then the image is as it was. */
+static void expect_table(const char *prefix, const char *name, const char *file, size_t room,
+                         int wanted, const uint8_t *image)
+{
+    uint8_t out[GRIDPROFILE_TABLE_IMAGE_BYTES] = {0};
+    int answer = gridprofile_read_table((const uint8_t *)file, strlen(file), out, room);
+    expect(prefix, name, answer, wanted, out, image, sizeof out);
+}
+
+/* The number at an offset of a row. */
+static void put_number(size_t row, size_t offset, uint32_t number)
+{
+    uint8_t *at = railway_table + GRIDPROFILE_TABLE_ROWS_OFFSET + row * GRIDPROFILE_ROW_BYTES;
+    at[offset] = (uint8_t)number;
+    at[offset + 1] = (uint8_t)(number >> 8);
+}
+
+/* The image of the railway's table, put together by hand; then files read and refused. */
+static void reading_tables(const char *prefix)
+{
+    static const uint32_t rows[4][3] = {
+        {'E', 100, 199}, {'M', 200, 400}, {'R', 600, 900}, {'T', 950, 1000}};
+    const size_t room = sizeof railway_table;
+    railway_table[GRIDPROFILE_TABLE_USED_OFFSET] = 4;
+    for (size_t row = 0; row < 4; row++) {
+        put_number(row, GRIDPROFILE_ROW_CLASS_OFFSET, rows[row][0]);
+        put_number(row, GRIDPROFILE_ROW_LOW_OFFSET, rows[row][1]);
+        put_number(row, GRIDPROFILE_ROW_HIGH_OFFSET, rows[row][2]);
+    }
+    expect_table(prefix, "read_table", railway, room, GRIDPROFILE_DONE, railway_table);
+    expect_table(prefix, "read_table of equal letters", "E,100,199\nE,200,400\n", room,
+                 GRIDPROFILE_BAD_TABLE, built_in);
+    expect_table(prefix, "read_table of nothing", "", room, GRIDPROFILE_BAD_TABLE, built_in);
+    expect_table(prefix, "read_table into a shorter image", railway, room - 1,
+                 GRIDPROFILE_BAD_SIZE, built_in);
+}
+
+/* The railway's line under a table: read, written and evaluated, or refused with 5. */
+static void lines_under(const char *prefix, const uint8_t *table, int wanted)
+{
+    uint8_t profile[GRIDPROFILE_PROFILE_IMAGE_BYTES] = {0}, out[GRIDPROFILE_LINE_MAX_BYTES] = {0};
+    const size_t line_len = sizeof railway_line - 1;
+    size_t length = 0;
+    int answer = gridprofile_read_line(table, GRIDPROFILE_TABLE_IMAGE_BYTES,
+                                       (const uint8_t *)railway_line, line_len, profile,
+                                       sizeof profile);
+    expect(prefix, "read_line under a table", answer, wanted, out, out, 0);
+    (void)gridprofile_read_line(railway_table, sizeof railway_table, (const uint8_t *)railway_line,
+                                line_len, profile, sizeof profile);
+    answer = gridprofile_write_line(table, GRIDPROFILE_TABLE_IMAGE_BYTES, profile, sizeof profile,
+                                    out, sizeof out, &length);
+    expect(prefix, "write_line under a table", answer, wanted, out, (const uint8_t *)railway_line,
+           length);
+    expect_length(length, wanted == GRIDPROFILE_DONE ? line_len : 0);
+    length = 0;
+    answer = gridprofile_evaluate_line(table, GRIDPROFILE_TABLE_IMAGE_BYTES,
+                                       (const uint8_t *)railway_formulas,
+                                       sizeof railway_formulas - 1, out, sizeof out, &length);
+    expect(prefix, "evaluate_line under a table", answer, wanted, out,
+           (const uint8_t *)railway_line, length);
+    expect_length(length, wanted == GRIDPROFILE_DONE ? line_len : 0);
+}
+
+/* What the listing of the railway's line and of the usual one has: only the one of the table. */
+static void listing_under(const char *prefix, const uint8_t *table, const char *wanted)
+{
+    uint8_t out[GRIDPROFILE_LISTING_BYTES], input[sizeof railway_line + sizeof line];
+    size_t length = 0, first = sizeof railway_line - 1, second = sizeof line - 1;
+    memcpy(input, railway_line, first);
+    memcpy(input + first, line, second);
+    int answer = gridprofile_preview(table, GRIDPROFILE_TABLE_IMAGE_BYTES, input, first + second,
+                                     out, sizeof out, &length);
+    expect(prefix, "preview under a table", answer, GRIDPROFILE_DONE, out, (const uint8_t *)wanted,
+           strlen(wanted));
+    expect_length(length, strlen(wanted));
+}
+
+static void tables(const char *prefix)
+{
+    reading_tables(prefix);
+    lines_under(prefix, railway_table, GRIDPROFILE_DONE);
+    lines_under(prefix, built_in, GRIDPROFILE_BAD_PROFILE);
+    listing_under(prefix, railway_table, "COUNTRY,CLASS,HERTZ,SERIAL\nXA,R,50,12\n");
+    listing_under(prefix, built_in, "COUNTRY,CLASS,HERTZ,SERIAL\nXA,B,50,12\n");
 }
 
 /* A category: the prefix of its names, its sizes and its functions. */
@@ -181,7 +280,8 @@ struct category {
                             const uint8_t *, size_t, const uint8_t *, size_t, uint32_t,
                             const uint8_t *, size_t, uint32_t, const uint8_t *, size_t);
     uint8_t (*make_package)(const uint8_t *, size_t, const uint8_t *, size_t, const uint8_t *,
-                            size_t, const uint8_t *, size_t, uint8_t *, size_t, size_t *);
+                            size_t, const uint8_t *, size_t, const uint8_t *, size_t, uint8_t *,
+                            size_t, size_t *);
     uint8_t (*load)(uint8_t *, size_t, const uint8_t *, size_t, const uint8_t *, size_t,
                     const uint8_t *, size_t, uint32_t, uint32_t);
 };
@@ -352,8 +452,9 @@ static void load_line(const struct category *c, uint8_t *store, uint32_t hertz, 
                       size_t text_len)
 {
     size_t length = 0;
-    int answer = c->make_package(zeros, c->private_seed, zeros, c->master_seed, zeros, c->salt,
-                                 (const uint8_t *)text, text_len, package, c->package_max, &length);
+    int answer = c->make_package(built_in, sizeof built_in, zeros, c->private_seed, zeros,
+                                 c->master_seed, zeros, c->salt, (const uint8_t *)text, text_len,
+                                 package, c->package_max, &length);
     expect(c->prefix, "make_package", answer, GRIDPROFILE_DONE, package, zeros, c->salt);
     expect_length(length, c->signature + text_len);
     expect_load(c, "load at other hertz", store, length, hertz == 50 ? 60 : 50,
@@ -380,6 +481,58 @@ static void loading(const struct category *c)
     nearest(store);
 }
 
+/* A class table offered to a store: the table's part of its image is then this, and all else as it
+ * was. */
+static void expect_offer(const char *name, uint8_t *store, const char *file, int wanted,
+                         const uint8_t *table)
+{
+    uint8_t due[GRIDPROFILE_STORE_IMAGE_BYTES];
+    memcpy(due, store, sizeof due);
+    memcpy(due + GRIDPROFILE_STORE_TABLE_OFFSET, table, GRIDPROFILE_TABLE_IMAGE_BYTES);
+    int answer = gridprofile_load_table(store, sizeof due, (const uint8_t *)file, strlen(file));
+    expect("gridprofile_", name, answer, wanted, store, due, sizeof due);
+}
+
+/* A table replaced while nothing is stored, and refused once something is; what a device may be set
+ * to and what is loaded go by it. */
+static void loading_under(const struct category *c)
+{
+    uint8_t store[GRIDPROFILE_STORE_IMAGE_BYTES] = {0}, other[GRIDPROFILE_TABLE_IMAGE_BYTES] = {0};
+    const size_t line_len = sizeof railway_line - 1;
+    size_t length = 0;
+    (void)gridprofile_read_table((const uint8_t *)"B,230,230\n", 10, other, sizeof other);
+    expect_offer("load_table", store, "B,230,230\n", GRIDPROFILE_DONE, other);
+    expect_offer("load_table of no table", store, "B,230,230", GRIDPROFILE_BAD_TABLE, other);
+    expect_offer("load_table again", store, railway, GRIDPROFILE_DONE, railway_table);
+    int answer = c->make_package(built_in, sizeof built_in, zeros, c->private_seed, zeros,
+                                 c->master_seed, zeros, c->salt, (const uint8_t *)railway_line,
+                                 line_len, package, c->package_max, &length);
+    expect(c->prefix, "make_package under another table", answer, GRIDPROFILE_BAD_PROFILE, key,
+           key, 0);
+    answer = c->make_package(railway_table, sizeof railway_table, zeros, c->private_seed, zeros,
+                             c->master_seed, zeros, c->salt, (const uint8_t *)railway_line,
+                             line_len, package, c->package_max, &length);
+    expect(c->prefix, "make_package under a table", answer, GRIDPROFILE_DONE, package, zeros,
+           c->salt);
+    expect_load(c, "load for a class of no table", store, length, 50, GRIDPROFILE_BAD_DEVICE);
+    expect_none("lookup of a class of the table", store, 'R', 50, GRIDPROFILE_NOT_STORED);
+    expect_none("lookup of a class of no table", store, 'B', 50, GRIDPROFILE_BAD_DEVICE);
+    answer = c->load(store, sizeof store, key, c->key, package, length, country, sizeof country,
+                     'R', 50);
+    expect(c->prefix, "load under a table", answer, GRIDPROFILE_DONE, key, key, 0);
+    expect_nearest("nearest under a table", store, 50, 740, GRIDPROFILE_DONE, railway_line,
+                   line_len);
+    expect_offer("load_table of no table into a store in use", store, "", GRIDPROFILE_BAD_TABLE,
+                 railway_table);
+    expect_offer("load_table into a store in use", store, railway, GRIDPROFILE_STORE_IN_USE,
+                 railway_table);
+    memset(store, 0, sizeof store);
+    answer = c->load(store, sizeof store, key, c->key, package, length, country, sizeof country,
+                     'D', 50);
+    expect(c->prefix, "load under the built-in classes", answer, GRIDPROFILE_BAD_PROFILE, store,
+           zeros, sizeof store);
+}
+
 int main(void)
 {
     const char *prefix = categories[0].prefix;
@@ -387,9 +540,11 @@ int main(void)
     listing(prefix);
     lines(prefix);
     evaluating(prefix);
+    tables(prefix);
     hashing(prefix);
     for (const struct category *c = categories; c < categories + 3; c++) {
         loading(c);
+        loading_under(c);
         signing(c);
         samples(c);
         second_challenge(c);

@@ -162,12 +162,15 @@ static uint8_t key[GRIDPROFILE_KEY_BYTES];
 static const uint8_t private_seed[GRIDPROFILE_PRIVATE_SEED_BYTES] = {7};
 static const uint8_t empty[IMAGE];
 
-static const char *const lines[] = {
+/* What is loaded, in this order: a class table, and then lines. The table has B as the built-in
+ * classes have it at 230 volts, so that the lines may be loaded without it too. */
+static const char *const texts[] = {
+    "A,100,129\nB,200,250\nK,400,1000\n",
     "GP1,XA,B,12,230,50,1150,100,800,1500,1500,100,-2500,100\n",
-    "GP1,XA,C,5,400,50,1100,200,850,1500,1500,100,-2500,100\n",
     "GP2,XA,B,13,230,50,1200,100,800,1500,1500,100,-2500,100,2000,500\n",
     "GP1,XA,B,1,230,60,1150,100,800,1500,1500,100,-2500,100\n",
 };
+#define TABLE 0
 
 /* A device to begin with, the store that it holds, and that after one more load; after each of
  * these two, the store that a further load makes. */
@@ -179,30 +182,43 @@ struct start {
 #define STARTS 3
 static struct start starts[STARTS];
 
-/* The store that loading the package of a line makes of another one, on the device that its image
- * names. */
-static void load(const uint8_t *store, size_t number, uint8_t *made)
+/* Loads the package of a line, on the device that its image names. */
+static void load_line(uint8_t *store, size_t number)
 {
     static uint8_t package[GRIDPROFILE_PACKAGE_MAX_BYTES];
-    const uint8_t *line = (const uint8_t *)lines[number];
+    const uint8_t *line = (const uint8_t *)texts[number];
+    const uint8_t *table = store + GRIDPROFILE_STORE_TABLE_OFFSET;
     uint8_t master[GRIDPROFILE_MASTER_SEED_BYTES], salt[GRIDPROFILE_SALT_BYTES];
     uint8_t profile[GRIDPROFILE_PROFILE_IMAGE_BYTES];
     size_t length = 0;
     memset(master, (int)number, sizeof master);
     memset(salt, (int)number + 100, sizeof salt);
-    expect(gridprofile_make_package(private_seed, sizeof private_seed, master, sizeof master, salt,
-                                    sizeof salt, line, strlen(lines[number]), package,
-                                    sizeof package, &length) == GRIDPROFILE_DONE,
+    expect(gridprofile_make_package(table, GRIDPROFILE_TABLE_IMAGE_BYTES, private_seed,
+                                    sizeof private_seed, master, sizeof master, salt, sizeof salt,
+                                    line, strlen(texts[number]), package, sizeof package,
+                                    &length) == GRIDPROFILE_DONE,
            "a package is made");
-    expect(gridprofile_read_line(line, strlen(lines[number]), profile, sizeof profile) ==
-               GRIDPROFILE_DONE,
+    expect(gridprofile_read_line(table, GRIDPROFILE_TABLE_IMAGE_BYTES, line, strlen(texts[number]),
+                                 profile, sizeof profile) == GRIDPROFILE_DONE,
            "a line is read");
-    memmove(made, store, IMAGE);
-    expect(gridprofile_load(made, IMAGE, key, sizeof key, package, length,
+    expect(gridprofile_load(store, IMAGE, key, sizeof key, package, length,
                             profile + GRIDPROFILE_COUNTRY_OFFSET, 2,
                             profile[GRIDPROFILE_CLASS_OFFSET],
                             profile[GRIDPROFILE_HERTZ_OFFSET]) == GRIDPROFILE_DONE,
            "a package is loaded");
+}
+
+/* The store that a load makes of another one. */
+static void load(const uint8_t *store, size_t number, uint8_t *made)
+{
+    const uint8_t *file = (const uint8_t *)texts[TABLE];
+    memmove(made, store, IMAGE);
+    if (number != TABLE) {
+        load_line(made, number);
+        return;
+    }
+    expect(gridprofile_load_table(made, IMAGE, file, strlen(texts[TABLE])) == GRIDPROFILE_DONE,
+           "a class table is loaded");
 }
 
 /* ---- a device */
@@ -348,7 +364,7 @@ static void every_second_cut(const struct start *start)
 
 /* With this step each first cut is followed by one or two second ones, and each second cut comes
  * after some first one. */
-#define STEP 1409
+#define STEP 1777
 
 static void every_start(void)
 {
@@ -468,8 +484,8 @@ static void garbage(void)
 
 /* The digest of a new device's record, as docs/FORMATS.md has it. */
 static const uint8_t worked[GRIDPROFILE_DIGEST_BYTES] = {
-    0x3D, 0xB7, 0x89, 0xDC, 0x1A, 0x84, 0x54, 0x9C, 0x94, 0xCA, 0xD6, 0x08, 0x9B, 0x0E, 0x3F, 0xEC,
-    0xBF, 0xDD, 0xCC, 0xB5, 0xE9, 0xC3, 0xB6, 0xD9, 0x6C, 0xA7, 0x06, 0xD0, 0x58, 0x0E, 0x34, 0xD5,
+    0x05, 0x30, 0xB9, 0x85, 0x93, 0x32, 0x06, 0x60, 0x62, 0xE2, 0x3C, 0x33, 0x28, 0x36, 0xBB, 0xED,
+    0x79, 0xC5, 0xD2, 0x01, 0x0E, 0x55, 0x7F, 0xD6, 0xA0, 0x7D, 0xBB, 0x2B, 0xBD, 0xE0, 0x21, 0x66,
 };
 
 /* The record as docs/FORMATS.md has it. */

@@ -1,5 +1,6 @@
 //! The proved library over slices, called as C calls it.
 
+pub mod both;
 pub mod c;
 mod category;
 pub mod samples;
@@ -22,7 +23,7 @@ entries! {
     unpack_values is gridprofile_unpack_values;
     pack_exponents is gridprofile_pack_exponents;
     unpack_exponents is gridprofile_unpack_exponents;
-    read_line is gridprofile_read_line;
+    read_table is gridprofile_read_table;
 }
 
 pub fn shake128(input: &[u8], out: &mut [u8]) {
@@ -35,28 +36,34 @@ pub fn shake256(input: &[u8], out: &mut [u8]) {
     unsafe { c::gridprofile_shake256(input.as_ptr(), input.len(), out.as_mut_ptr(), out.len()) }
 }
 
-/// The answer, and the length: what it was before, where the entry did not write it.
-pub fn write_line(profile: &[u8], line: &mut [u8], mut length: usize) -> (u8, usize) {
-    let ((a, b), (c, d)) = ((profile.as_ptr(), profile.len()), (line.as_mut_ptr(), line.len()));
-    // SAFETY: as above; the length is a variable of its own.
-    let answer = unsafe { c::gridprofile_write_line(a, b, c, d, &mut length) };
-    (answer, length)
+pub fn read_line(table: &[u8], line: &[u8], profile: &mut [u8]) -> u8 {
+    let [(a, b), (c, d)] = [table, line].map(|s| (s.as_ptr(), s.len()));
+    // SAFETY: as above.
+    unsafe { c::gridprofile_read_line(a, b, c, d, profile.as_mut_ptr(), profile.len()) }
 }
 
-/// Answer and length, as `write_line` gives them.
-pub fn evaluate_line(input: &[u8], line: &mut [u8], mut length: usize) -> (u8, usize) {
-    let ((a, b), (c, d)) = ((input.as_ptr(), input.len()), (line.as_mut_ptr(), line.len()));
-    // SAFETY: as above.
-    let answer = unsafe { c::gridprofile_evaluate_line(a, b, c, d, &mut length) };
-    (answer, length)
+macro_rules! entries_under_a_table {
+    ($($name:ident is $symbol:ident;)*) => {
+        $(/// The answer, and the length: what it was before, where the entry did not write it.
+        pub fn $name(table: &[u8], input: &[u8], out: &mut [u8], mut length: usize) -> (u8, usize) {
+            let [(a, b), (c, d)] = [table, input].map(|s| (s.as_ptr(), s.len()));
+            let (e, f) = (out.as_mut_ptr(), out.len());
+            // SAFETY: as above; the length is a variable of its own.
+            let answer = unsafe { c::$symbol(a, b, c, d, e, f, &mut length) };
+            (answer, length)
+        })*
+    };
 }
 
-/// Answer and length, as `write_line` gives them.
-pub fn preview(input: &[u8], out: &mut [u8], mut length: usize) -> (u8, usize) {
-    let ((a, b), (c, d)) = ((input.as_ptr(), input.len()), (out.as_mut_ptr(), out.len()));
+entries_under_a_table! {
+    write_line is gridprofile_write_line;
+    evaluate_line is gridprofile_evaluate_line;
+    preview is gridprofile_preview;
+}
+
+pub fn load_table(store: &mut [u8], file: &[u8]) -> u8 {
     // SAFETY: as above.
-    let answer = unsafe { c::gridprofile_preview(a, b, c, d, &mut length) };
-    (answer, length)
+    unsafe { c::gridprofile_load_table(store.as_mut_ptr(), store.len(), file.as_ptr(), file.len()) }
 }
 
 /// Answer and length, as `write_line` gives them.

@@ -6,6 +6,7 @@ use crate::keccak::{shake, SHAKE128_RATE, SHAKE256_RATE};
 use crate::line::{image, meaning, read_line as read, write_line as written, IMAGE, LONGEST};
 use crate::refusal::{answer, answer_length, demand, BAD_SIZE};
 use crate::sizes::Sizes;
+use crate::table::{read_table as table_of, Table, TABLE};
 
 fn pack_entry(kind: Kind, numbers: &[u8], packed: &mut [u8]) -> u8 {
     let sized = demand(packed.len() == packed_size(kind.width, numbers.len()), BAD_SIZE);
@@ -64,18 +65,29 @@ pub fn shake256(input: &[u8], out: &mut [u8]) {
     out.copy_from_slice(&shake(SHAKE256_RATE, input, out.len()));
 }
 
-/// Reads a line into a profile's image.
-pub fn read_line(line: &[u8], profile: &mut [u8]) -> u8 {
-    let sized = demand(profile.len() == IMAGE, BAD_SIZE);
-    answer(sized.and_then(|()| read(line)).map(|read| image(&read).to_vec()), profile)
+/// Reads a line under a table's image, into a profile's.
+pub fn read_line(table: &[u8], line: &[u8], profile: &mut [u8]) -> u8 {
+    let make = || {
+        let table = Table::lent(table)?;
+        demand(profile.len() == IMAGE, BAD_SIZE)?;
+        read(&table, line).map(|read| image(&read).to_vec())
+    };
+    answer(make(), profile)
 }
 
-/// Writes the line of an image's profile; the length comes back, or as it was.
-pub fn write_line(profile: &[u8], out: &mut [u8], length: usize) -> (u8, usize) {
+/// Writes the line of an image's profile under a table's image; the length comes back, or as it was.
+pub fn write_line(table: &[u8], profile: &[u8], out: &mut [u8], length: usize) -> (u8, usize) {
     let make = || {
+        let table = Table::lent(table)?;
         let image: &[u8; IMAGE] = profile.try_into().map_err(|_| BAD_SIZE)?;
         demand(out.len() == LONGEST, BAD_SIZE)?;
-        written(&meaning(image))
+        written(&table, &meaning(image))
     };
     answer_length(make(), out, length)
+}
+
+/// Reads a table's file into its image: 1, 13.
+pub fn read_table(file: &[u8], table: &mut [u8]) -> u8 {
+    let sized = demand(table.len() == TABLE, BAD_SIZE);
+    answer(sized.and_then(|()| table_of(file)).map(|read| read.image().to_vec()), table)
 }

@@ -23,6 +23,7 @@ pub mod scheme;
 pub mod sizes;
 pub mod store;
 pub mod strings;
+pub mod table;
 pub mod toy;
 pub mod vectors;
 pub mod zeros;

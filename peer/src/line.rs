@@ -1,6 +1,7 @@
 //! Profiles, their lines, and the image of 76 bytes that C holds.
 
 use crate::refusal::{demand, Refusal, BAD_PROFILE, BAD_SIZE};
+use crate::table::Table;
 use std::ops::RangeInclusive;
 
 /// The shortest line, which has no rate point, and the longest, which has one.
@@ -66,17 +67,6 @@ pub const TRIPS: [(Kind, RangeInclusive<u32>); 4] =
 /// Limits of a rate point.
 pub const RATES: RangeInclusive<u32> = 100..=10_000;
 
-/// The class that nominal volts have.
-pub fn class_of(volts: u32) -> Option<u8> {
-    match volts {
-        100..=139 => Some(b'A'),
-        140..=259 => Some(b'B'),
-        260..=519 => Some(b'C'),
-        520..=1_000 => Some(b'D'),
-        _ => None,
-    }
-}
-
 pub fn is_country(country: &[u8]) -> bool {
     country.len() == 2 && country.iter().all(u8::is_ascii_uppercase)
 }
@@ -94,10 +84,11 @@ impl Rate {
 }
 
 impl Profile {
-    pub fn is_valid(&self) -> bool {
+    /// Whether it breaks no rule under this table.
+    pub fn is_valid(&self, table: &Table) -> bool {
         is_country(&self.country)
             && self.serial >= 1
-            && class_of(self.volts) == Some(self.class)
+            && table.class_of(self.volts) == Some(self.class)
             && NOMINAL_HERTZ.contains(&self.hertz)
             && self.trips.iter().zip(&TRIPS).all(|(trip, rule)| trip.obeys(rule))
             && self.rate.iter().all(Rate::is_valid)
@@ -148,15 +139,15 @@ fn parsed(line: &[u8]) -> Option<Profile> {
     Some(Profile { country, class: class.as_bytes()[0], serial, volts, hertz, trips, rate })
 }
 
-/// Reads a line: 1 where its length is none of a line, 5 where it breaks a rule.
-pub fn read_line(line: &[u8]) -> Result<Profile, Refusal> {
+/// Reads a line under a table: 1 where its length is none of a line, 5 where it breaks a rule.
+pub fn read_line(table: &Table, line: &[u8]) -> Result<Profile, Refusal> {
     demand((SHORTEST..=LONGEST).contains(&line.len()), BAD_SIZE)?;
-    parsed(line).filter(Profile::is_valid).ok_or(BAD_PROFILE)
+    parsed(line).filter(|profile| profile.is_valid(table)).ok_or(BAD_PROFILE)
 }
 
-/// Writes a profile's line: 5 where the profile breaks a rule.
-pub fn write_line(profile: &Profile) -> Result<Vec<u8>, Refusal> {
-    demand(profile.is_valid(), BAD_PROFILE)?;
+/// Writes a profile's line: 5 where the profile breaks a rule under the table.
+pub fn write_line(table: &Table, profile: &Profile) -> Result<Vec<u8>, Refusal> {
+    demand(profile.is_valid(table), BAD_PROFILE)?;
     Ok(profile.line().into_bytes())
 }
 

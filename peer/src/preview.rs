@@ -3,6 +3,7 @@
 use crate::line::{read_line, Profile};
 use crate::refusal::{answer_length, demand, BAD_SIZE};
 use crate::store::{Device, Store, CAPACITY};
+use crate::table::Table;
 
 pub const HEADER: &str = "COUNTRY,CLASS,HERTZ,SERIAL\n";
 pub const TOO_LONG: &str = "too long\n";
@@ -24,11 +25,11 @@ fn place(profile: &Profile) -> ([u8; 2], u8, u32) {
     (profile.country, profile.class, profile.hertz)
 }
 
-/// What the lines of an input leave stored: refused lines and an unfinished last one are skipped.
-fn stored(input: &[u8]) -> Store {
+/// What the lines of an input leave stored under a table: refused lines and an unfinished last one are skipped.
+fn stored(table: &Table, input: &[u8]) -> Store {
     let mut store = Store::default();
     for piece in input.split_inclusive(|&byte| byte == b'\n').filter(|piece| piece.ends_with(b"\n")) {
-        if let Ok(profile) = read_line(piece) {
+        if let Ok(profile) = read_line(table, piece) {
             let _ = store.put(profile, &Device::of(&profile)); // one that is refused changes nothing
         }
     }
@@ -36,23 +37,27 @@ fn stored(input: &[u8]) -> Store {
 }
 
 /// The header, then the rows of these profiles as they stand.
-fn table(profiles: &[Profile]) -> String {
+fn rows_of(profiles: &[Profile]) -> String {
     HEADER.to_string() + &profiles.iter().map(row).collect::<String>()
 }
 
-pub fn listing(input: &[u8]) -> String {
+pub fn listing(table: &Table, input: &[u8]) -> String {
     if input.len() > LONGEST_INPUT {
         return TOO_LONG.to_string();
     }
-    let mut profiles = stored(input).profiles().to_vec();
+    let mut profiles = stored(table, input).profiles().to_vec();
     profiles.sort_by_key(place);
-    table(&profiles)
+    rows_of(&profiles)
 }
 
-/// Writes the listing at the front of the lent bytes; the length comes back, or as it was.
-pub fn preview(input: &[u8], out: &mut [u8], length: usize) -> (u8, usize) {
-    let sized = demand(out.len() == LISTING, BAD_SIZE);
-    answer_length(sized.map(|()| listing(input).into_bytes()), out, length)
+/// Writes the listing under a table's image at the front of the lent bytes; the length comes back, or as it was.
+pub fn preview(table: &[u8], input: &[u8], out: &mut [u8], length: usize) -> (u8, usize) {
+    let make = || {
+        let table = Table::lent(table)?;
+        demand(out.len() == LISTING, BAD_SIZE)?;
+        Ok(listing(&table, input).into_bytes())
+    };
+    answer_length(make(), out, length)
 }
 
 pub mod cases;

@@ -15,9 +15,11 @@ pub const NOT_STORED: Refusal = 9;
 pub const BAD_DEVICE: Refusal = 10;
 pub const BAD_FORMULA: Refusal = 11;
 pub const BAD_STEP: Refusal = 12;
+pub const BAD_TABLE: Refusal = 13;
+pub const STORE_IN_USE: Refusal = 14;
 
 /// How many numbers there are: "done" and the refusals.
-pub const ANSWERS: usize = 13;
+pub const ANSWERS: usize = 15;
 
 /// Refuses by `refusal` unless `ok`.
 pub fn demand(ok: bool, refusal: Refusal) -> Result<(), Refusal> {

@@ -7,6 +7,7 @@ use peer::preview;
 use peer::refusal;
 use peer::sizes::{Sizes, CATEGORY_1, CATEGORY_3, CATEGORY_5};
 use peer::store;
+use peer::table::{self, Row, Table};
 use std::collections::BTreeMap;
 
 const HEADER: &str = include_str!("../../include/gridprofile.h");
@@ -79,6 +80,27 @@ fn offsets() -> Vec<(&'static str, usize)> {
     ]
 }
 
+/// Where the image of a table first differs, when one of its rows is changed so, or where a row more is used.
+fn table_changes_at(one: &[Row], other: &[Row]) -> usize {
+    let mut pairs = Table::of(one).image().into_iter().zip(Table::of(other).image());
+    pairs.position(|(old, new)| old != new).expect("a part of the image")
+}
+
+/// Where the parts of a table's image stand, as the second program writes it.
+fn table_offsets() -> Vec<(&'static str, usize)> {
+    let zero = Row { letter: 0, low: 0, high: 0 };
+    let [class, low, high] = [Row { letter: 1, ..zero }, Row { low: 1, ..zero }, Row { high: 1, ..zero }];
+    let [first, second] = [[class, zero], [zero, class]].map(|rows| table_changes_at(&[zero, zero], &rows));
+    vec![
+        ("TABLE_USED_OFFSET", table_changes_at(&[], &[zero])),
+        ("TABLE_ROWS_OFFSET", first),
+        ("ROW_BYTES", second - first),
+        ("ROW_CLASS_OFFSET", table_changes_at(&[zero], &[class]) - first),
+        ("ROW_LOW_OFFSET", table_changes_at(&[zero], &[low]) - first),
+        ("ROW_HIGH_OFFSET", table_changes_at(&[zero], &[high]) - first),
+    ]
+}
+
 /// The newest version that the changelog names.
 fn version() -> &'static str {
     let named = CHANGES.lines().find_map(|line| line.strip_prefix("## ")).expect("a heading");
@@ -128,6 +150,11 @@ fn expected() -> BTreeMap<String, usize> {
         ("LISTING_BYTES", preview::LISTING),
         ("STORE_IMAGE_BYTES", store::STORE),
         ("STORE_SLOTS", store::CAPACITY),
+        ("STORE_TABLE_OFFSET", store::SLOTS),
+        ("TABLE_ROWS", table::ROWS),
+        ("TABLE_FILE_MIN_BYTES", table::SHORTEST_FILE),
+        ("TABLE_FILE_MAX_BYTES", table::LONGEST_FILE),
+        ("TABLE_IMAGE_BYTES", table::TABLE),
         ("NEAREST_VOLTS_MAX", store::MEASURED_MAX as usize),
         ("NEAREST_REACH", store::REACH as usize),
         ("BAD_SIZE", usize::from(refusal::BAD_SIZE)),
@@ -136,11 +163,13 @@ fn expected() -> BTreeMap<String, usize> {
         ("MISMATCH", usize::from(refusal::MISMATCH)),
         ("BAD_FORMULA", usize::from(refusal::BAD_FORMULA)),
         ("BAD_STEP", usize::from(refusal::BAD_STEP)),
+        ("BAD_TABLE", usize::from(refusal::BAD_TABLE)),
+        ("STORE_IN_USE", usize::from(refusal::STORE_IN_USE)),
     ];
     let later = ["BAD_PROFILE", "OTHER_DEVICE", "OLD_SERIAL", "STORE_FULL", "NOT_STORED", "BAD_DEVICE"];
     let later = later.into_iter().zip(5..);
     let all = [("DONE", 0)].into_iter().chain(sizes).chain(sizes_of(&CATEGORY_1)).chain(later);
-    let all = all.chain(offsets()).chain(version_numbers());
+    let all = all.chain(offsets()).chain(table_offsets()).chain(version_numbers());
     all.map(|(name, x)| (name.to_string(), x)).collect()
 }
 

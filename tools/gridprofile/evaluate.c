@@ -1,4 +1,4 @@
-/* gridprofile evaluate [FILE] */
+/* gridprofile evaluate [FILE] [--classes TABLE] */
 #include "program.h"
 
 #include <string.h>
@@ -16,7 +16,8 @@ static int evaluate(struct part line, FILE *to)
 {
     uint8_t plain[GRIDPROFILE_LINE_MAX_BYTES];
     size_t length = 0;
-    int answer = gridprofile_evaluate_line(line.at, line.length, plain, sizeof plain, &length);
+    int answer = gridprofile_evaluate_line(classes, sizeof classes, line.at, line.length, plain,
+                                           sizeof plain, &length);
     if (answer == 0 && to != NULL)
         (void)fwrite(plain, 1, length, to);
     return answer;
@@ -80,14 +81,17 @@ int run_evaluate(const struct request *request)
 {
     static uint8_t bytes[GRIDPROFILE_PREVIEW_MAX_BYTES + 1];
     const char *path = request->arguments[0] != NULL ? request->arguments[0] : "-";
-    struct input file = {.role = "FILE", .path = path, .bytes = bytes, .room = sizeof bytes};
+    struct input inputs[] = {
+        {.role = "FILE", .path = path, .bytes = bytes, .room = sizeof bytes},
+        table_input(request->classes),
+    };
     struct sheet sheet = {.lines = 0};
-    int status = read_inputs(&file, 1);
+    int status = read_with_classes(request, inputs, 1);
     if (status != 0)
         return status;
-    if (file.length > GRIDPROFILE_PREVIEW_MAX_BYTES)
+    if (inputs[0].length > GRIDPROFILE_PREVIEW_MAX_BYTES)
         return refuse_size(request->command);
-    sheet.text = (struct part){bytes, file.length};
+    sheet.text = (struct part){bytes, inputs[0].length};
     evaluate_all(&sheet, NULL);
     if (sheet.refused > 0)
         return refuse(request->command, &sheet);

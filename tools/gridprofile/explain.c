@@ -1,7 +1,9 @@
-/* What is wrong with a profile line, in words. docs/FORMATS.md, "Profile line", has the rules; the
- * library decides by them, and this only says where a line that it refused breaks the first one. */
+/* What is wrong with a profile line, in words. docs/FORMATS.md, "Profile line" and "Class tables", has
+ * the rules; the library decides by them, and this only says where a line that it refused breaks the
+ * first one. */
 #include "program.h"
 
+#include <inttypes.h>
 #include <string.h>
 
 /* All that there are; a line without a rate point ends before the last two. */
@@ -13,7 +15,7 @@ enum { SHOWN = 24 };
 /* What parts this many fields is meant as a line, whatever it begins with. */
 enum { TELLING_MARKS = 10 };
 
-enum form { TAG, TWO_LETTERS, ONE_LETTER, NUMBER, NEGATIVE, EITHER };
+enum form { TAG, TWO_LETTERS, ONE_LETTER, CLASS_LETTER, NUMBER, NEGATIVE, EITHER };
 
 /* The kinds of line: the tag, and the number of fields that it asks for. */
 struct tag {
@@ -29,7 +31,7 @@ struct rule {
     const char *name;
     enum form form;
     uint32_t least, most; /* of a number, without its minus */
-    const char *must;
+    const char *must; /* of the class the table tells it */
 };
 
 #define DELAY_RULE(name) {name " delay", NUMBER, 20, 60000, "20 to 60000 ms"}
@@ -37,10 +39,9 @@ struct rule {
 static const struct rule rules[FIELDS] = {
     {"tag", TAG, 0, 0, "GP1 or GP2"},
     {"country", TWO_LETTERS, 0, 0, "two letters A to Z"},
-    {"class", ONE_LETTER, 0, 0,
-     "A (100 to 139 V), B (140 to 259), C (260 to 519) or D (520 to 1000)"},
+    {"class", CLASS_LETTER, 0, 0, NULL},
     {"serial", NUMBER, 1, UINT32_MAX, "1 to 4294967295"},
-    {"nominal volts", NUMBER, 100, 1000, "100 to 1000"},
+    {"nominal volts", NUMBER, LEAST_VOLTS, MOST_VOLTS, "100 to 1000"},
     {"hertz", EITHER, 50, 60, "50 or 60"},
     {"over-voltage", NUMBER, 1001, 1500, "1001 to 1500 thousandths of nominal"},
     DELAY_RULE("over-voltage"),
@@ -152,7 +153,7 @@ static int is_meant_as_line(struct part text)
 }
 
 /* Of any number of digits; it stops at the first value that is too great for every field. */
-static uint64_t value_of(struct part digits)
+uint64_t value_in(struct part digits)
 {
     uint64_t value = 0;
     for (size_t at = 0; at < digits.length && value <= UINT32_MAX; at++)
@@ -170,7 +171,9 @@ static int letters_fit(enum form form, struct part part)
     if (form == TAG)
         return find_tag(part) != NULL;
     if (form == ONE_LETTER)
-        return part.length == 1 && is_between(part.at[0], 'A', 'D');
+        return part.length == 1 && is_between(part.at[0], 'A', 'Z');
+    if (form == CLASS_LETTER)
+        return part.length == 1 && is_class(part.at[0]);
     return part.length == 2 && is_between(part.at[0], 'A', 'Z') && is_between(part.at[1], 'A', 'Z');
 }
 
@@ -221,7 +224,17 @@ static const char *number_trouble(const struct rule *rule, struct part part)
         return minus ? ", with a minus" : ", without a minus";
     if (digits.length > 1 && digits.at[0] == '0')
         return ", with a leading zero";
-    return number_fits(rule, value_of(digits)) ? NULL : "";
+    return number_fits(rule, value_in(digits)) ? NULL : "";
+}
+
+const char *letter_trouble(struct part part)
+{
+    return letters_trouble(ONE_LETTER, part);
+}
+
+const char *volts_trouble(struct part part)
+{
+    return number_trouble(&rules[VOLTS_FIELD], part);
 }
 
 /* NULL where a field keeps its rule by itself, else words on what is wrong with it, or none where
@@ -234,17 +247,37 @@ static const char *trouble(size_t field, struct part part)
     return rule->form < NUMBER ? letters_trouble(rule->form, part) : number_trouble(rule, part);
 }
 
-static char class_of(int volts)
+/* The class of the nominal volts, or 0 where they are in a gap; and nothing of volts that break their
+ * rule. */
+static int find_class(const struct line *line, uint32_t *letter)
 {
-    return volts < 140 ? 'A' : volts < 260 ? 'B' : volts < 520 ? 'C' : 'D';
+    struct part volts = line->fields[VOLTS_FIELD];
+    int known = trouble(VOLTS_FIELD, volts) == NULL;
+    *letter = known ? class_of((uint32_t)value_in(volts)) : 0;
+    return known;
 }
 
 /* Class and volts are both good, and do not fit. */
 static int class_differs(const struct line *line)
 {
-    struct part letter = line->fields[CLASS_FIELD], volts = line->fields[VOLTS_FIELD];
-    return trouble(CLASS_FIELD, letter) == NULL && trouble(VOLTS_FIELD, volts) == NULL &&
-           letter.at[0] != class_of((int)value_of(volts));
+    struct part letter = line->fields[CLASS_FIELD];
+    uint32_t wanted;
+    return trouble(CLASS_FIELD, letter) == NULL && find_class(line, &wanted) && wanted != 0 &&
+           letter.at[0] != wanted;
+}
+
+/* The volts are good by themselves, and no class has them: there whatever the class is, they are the
+ * fault. */
+static int is_in_gap(const struct line *line)
+{
+    uint32_t wanted;
+    return find_class(line, &wanted) && wanted == 0;
+}
+
+/* A field that is good by itself, but not beside another. */
+static int clashes(const struct line *line, size_t field)
+{
+    return (field == CLASS_FIELD && class_differs(line)) || (field == VOLTS_FIELD && is_in_gap(line));
 }
 
 /* How many fields the tag asks for. Another tag is the first fault, so that it does not matter then. */
@@ -258,8 +291,7 @@ static size_t fields_of(const struct line *line)
 static size_t first_broken(const struct line *line)
 {
     size_t field = 0, asked = fields_of(line);
-    while (field < asked && trouble(field, line->fields[field]) == NULL &&
-           !(field == CLASS_FIELD && class_differs(line)))
+    while (field < asked && trouble(field, line->fields[field]) == NULL && !clashes(line, field))
         field++;
     return field;
 }
@@ -305,7 +337,26 @@ void print_field_name(FILE *to, size_t field)
 
 void print_field_rule(FILE *to, size_t field)
 {
-    fprintf(to, "; it must be %s\n", rules[field].must);
+    fputs("; it must be ", to);
+    if (field == CLASS_FIELD)
+        print_ranges(to);
+    else
+        fputs(rules[field].must, to);
+    fputc('\n', to);
+}
+
+/* Of volts without a class, the classes that there are; of a class that they have not, the one that
+ * they have. */
+static void print_clash(FILE *to, const struct line *line, size_t field)
+{
+    uint32_t volts = (uint32_t)value_in(line->fields[VOLTS_FIELD]);
+    if (field == CLASS_FIELD) {
+        fprintf(to, ", but %" PRIu32 " volts are of class %c\n", volts, (int)class_of(volts));
+        return;
+    }
+    fputs(", in a gap of the class table; it must be in ", to);
+    print_ranges(to);
+    fputc('\n', to);
 }
 
 static void print_first_broken(FILE *to, const struct line *line)
@@ -315,9 +366,8 @@ static void print_first_broken(FILE *to, const struct line *line)
         return;
     print_field_name(to, field);
     print_part(to, line->fields[field], SHOWN);
-    if (field == CLASS_FIELD && class_differs(line)) {
-        int volts = (int)value_of(line->fields[VOLTS_FIELD]);
-        fprintf(to, ", but %d volts are of class %c\n", volts, class_of(volts));
+    if (clashes(line, field)) {
+        print_clash(to, line, field);
     } else {
         fputs(trouble(field, line->fields[field]), to);
         print_field_rule(to, field);

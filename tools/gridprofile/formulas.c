@@ -93,7 +93,7 @@ static struct question ask_with(const struct cut *line, size_t one, struct part 
 
 static int answer_to(const struct question *question, uint8_t *plain, size_t *length)
 {
-    return gridprofile_evaluate_line(question->bytes, question->length, plain,
+    return gridprofile_evaluate_line(classes, sizeof classes, question->bytes, question->length, plain,
                                      GRIDPROFILE_LINE_MAX_BYTES, length);
 }
 

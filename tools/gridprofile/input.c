@@ -113,13 +113,11 @@ int read_inputs(struct input *inputs, size_t count)
     return status;
 }
 
-/* A whole profile line: no seed and no key is one by chance. What may be a seed is not read as a line,
- * since that would leave traces of it on the stack. */
+/* A whole profile line, whatever its classes are: no seed and no key is one by chance. What may be a
+ * seed is not read as a line, since that would leave traces of it on the stack. */
 static int is_profile(const struct input *input)
 {
-    uint8_t image[GRIDPROFILE_PROFILE_IMAGE_BYTES];
-    return input->begins_as_line &&
-           gridprofile_read_line(input->bytes, input->length, image, sizeof image) == 0;
+    return input->begins_as_line && is_line_of_some_table(input->bytes, input->length);
 }
 
 int spare_lines(const struct request *request, const struct input *inputs, size_t count)

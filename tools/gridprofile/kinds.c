@@ -16,9 +16,13 @@ static const struct kind_by_category by_category[] = {
     {PACKAGE_SIZE, PACKAGE, "a package"},
 };
 
-/* A store whose profiles had no place for a rate point. Nothing reads it any more; it is told from a
- * damaged one. */
-enum { FORMER_IMAGE_BYTES = 1024, FORMER_FILE_BYTES = FORMER_IMAGE_BYTES + CHECKSUM_BYTES };
+/* Stores of former layouts: their profiles had no place for a rate point, or they had none for a class
+ * table. Nothing reads them any more; they are told from damaged ones. */
+enum { IMAGE_WITHOUT_RATES = 1024, IMAGE_WITHOUT_CLASSES = 1216 };
+#define FORMER_STORES(image, name)                                                                  \
+    {{image, image}, FORMER_STORE, "a store of the layout before " name ", without a checksum"},    \
+    {{image + CHECKSUM_BYTES, image + CHECKSUM_BYTES}, FORMER_STORE,                                \
+     "a store of the layout before " name}
 
 struct kind_by_size {
     struct span span;
@@ -31,10 +35,8 @@ static const struct kind_by_size at_any_category[] = {
     {{GRIDPROFILE_STORE_IMAGE_BYTES, GRIDPROFILE_STORE_IMAGE_BYTES}, STORE,
      "a store without a checksum"},
     {{STORE_FILE_BYTES, STORE_FILE_BYTES}, STORE, "a store"},
-    {{FORMER_IMAGE_BYTES, FORMER_IMAGE_BYTES}, FORMER_STORE,
-     "a store of the layout before rate points, without a checksum"},
-    {{FORMER_FILE_BYTES, FORMER_FILE_BYTES}, FORMER_STORE,
-     "a store of the layout before rate points"},
+    FORMER_STORES(IMAGE_WITHOUT_RATES, "rate points"),
+    FORMER_STORES(IMAGE_WITHOUT_CLASSES, "class tables"),
 };
 
 static const struct kind_by_size *find_at_any(size_t size)

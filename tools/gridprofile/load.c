@@ -14,8 +14,7 @@ int run_new_store(const struct request *request)
     int status = find_output(&output, request, request->arguments[0], STORE);
     if (status != 0)
         return status;
-    seal_store(store);
-    status = write_output(&output, store, STORE_FILE_BYTES);
+    status = write_store(&output, store);
     if (status == 0)
         fputs("An empty store.\n", report_of(&output));
     return status;
@@ -53,7 +52,7 @@ static int look_up(const struct device *device, size_t store_length, uint8_t *li
 static size_t changed_slot(const uint8_t *before)
 {
     size_t at = 0;
-    while (at + GRIDPROFILE_PROFILE_IMAGE_BYTES < GRIDPROFILE_STORE_IMAGE_BYTES &&
+    while (at + GRIDPROFILE_PROFILE_IMAGE_BYTES < GRIDPROFILE_STORE_TABLE_OFFSET &&
            memcmp(before + at, store + at, GRIDPROFILE_PROFILE_IMAGE_BYTES) == 0)
         at += GRIDPROFILE_PROFILE_IMAGE_BYTES;
     return at;
@@ -77,7 +76,7 @@ static void print_accepted(FILE *to, const uint8_t *before, const struct input *
 static uint32_t serial_of_line(const uint8_t *line, size_t length)
 {
     uint8_t profile[GRIDPROFILE_PROFILE_IMAGE_BYTES];
-    return gridprofile_read_line(line, length, profile, sizeof profile) == 0 ? serial_of(profile) : 0;
+    return read_profile(line, length, profile) == 0 ? serial_of(profile) : 0;
 }
 
 static uint32_t stored_serial(const struct device *device)
@@ -102,30 +101,6 @@ static int refuse_serial(const struct request *request, const struct device *dev
                            stored == UINT32_MAX
                                ? "the stored serial is the greatest, which nothing can replace"
                                : "a newer profile is signed under a greater serial");
-}
-
-/* The store is read under the lock, and nothing else is: what comes by a stream can take long. A load
- * puts a fresh checksum over the whole, so that what is damaged must be seen before. */
-static int read_locked(struct output *output, struct input *read)
-{
-    int status = lock_output(output);
-    if (!is_stream(output->path))
-        read->target = output->target;
-    if (status == 0)
-        status = read_store(read);
-    if (status == 0 && read->length == GRIDPROFILE_STORE_IMAGE_BYTES)
-        status = check_slots(read);
-    return status;
-}
-
-static int write_store(struct output *output, const uint8_t *before, const struct input *key)
-{
-    int status;
-    seal_store(store);
-    status = write_output(output, store, STORE_FILE_BYTES);
-    if (status == 0)
-        print_accepted(report_of(output), before, key);
-    return status;
 }
 
 int run_load(const struct request *request)
@@ -157,7 +132,10 @@ int run_load(const struct request *request)
         return refuse_serial(request, &device, &inputs[2]);
     if (answer != 0)
         return refused_package(request->command, answer, inputs, COUNT(inputs), &inputs[2]);
-    return write_store(&output, before, &inputs[1]);
+    status = write_store(&output, store);
+    if (status == 0)
+        print_accepted(report_of(&output), before, &inputs[1]);
+    return status;
 }
 
 int run_lookup(const struct request *request)

@@ -9,17 +9,17 @@
 struct command {
     const char *name;
     size_t least, most; /* arguments */
-    int reports;        /* what it prints only tells what it wrote */
+    size_t writes;      /* with how many it writes a file, so that it prints only what it did; or 0 */
     int (*run)(const struct request *request);
 };
 
 static const struct command commands[] = {
-    {"new-key", 2, 2, 1, run_new_key}, {"key", 2, 2, 1, run_key},
-    {"sign", 3, 3, 1, run_sign},       {"verify", 2, 2, 0, run_verify},
-    {"new-store", 1, 1, 1, run_new_store}, {"load", 6, 6, 1, run_load},
-    {"lookup", 4, 4, 0, run_lookup},   {"nearest", 4, 4, 0, run_nearest},
-    {"show", 1, 1, 0, run_show},       {"preview", 0, 1, 0, run_preview},
-    {"evaluate", 0, 1, 0, run_evaluate},
+    {"new-key", 2, 2, 2, run_new_key}, {"key", 2, 2, 2, run_key},
+    {"sign", 3, 3, 3, run_sign},       {"verify", 2, 2, 0, run_verify},
+    {"new-store", 1, 1, 1, run_new_store}, {"classes", 1, 2, 2, run_classes},
+    {"load", 6, 6, 6, run_load},       {"lookup", 4, 4, 0, run_lookup},
+    {"nearest", 4, 4, 0, run_nearest}, {"show", 1, 1, 0, run_show},
+    {"preview", 0, 1, 0, run_preview}, {"evaluate", 0, 1, 0, run_evaluate},
 };
 
 static const struct command *find_command(const char *name)
@@ -71,7 +71,7 @@ static size_t count_arguments(const struct request *request)
     return count;
 }
 
-static int run_command(const struct command *command, char **words)
+static int run_command(const struct command *command, char **words, int *is_report)
 {
     static struct request request;
     int status;
@@ -84,6 +84,7 @@ static int run_command(const struct command *command, char **words)
     if (count < command->least || count > command->most)
         return wrong_usage(command->name, count < command->least ? "an argument is missing"
                                                                  : "too many arguments", "");
+    *is_report = command->writes != 0 && count >= command->writes;
     return command->run(&request);
 }
 
@@ -100,8 +101,7 @@ static int run(char **words, int *is_report)
         return wrong_usage("", "there is no command ", words[0]);
     if (asks_help(words + 1))
         return print_help(words[0]);
-    *is_report = command->reports;
-    return run_command(command, words + 1);
+    return run_command(command, words + 1, is_report);
 }
 
 int main(int count, char **words)

@@ -30,7 +30,7 @@ static void print_distance(const uint8_t *line, size_t length, uint32_t measured
 {
     uint8_t image[GRIDPROFILE_PROFILE_IMAGE_BYTES];
     uint32_t nominal;
-    (void)gridprofile_read_line(line, length, image, sizeof image);
+    (void)read_profile(line, length, image);
     nominal = volts_of(image);
     printf("Class %c, %" PRIu32 " V nominal: ", image[GRIDPROFILE_CLASS_OFFSET], nominal);
     if (nominal == measured)

@@ -17,6 +17,8 @@ static const char **value_of(struct request *request, const char *option)
         return &request->given_master;
     if (strcmp(option, "--given-salt") == 0)
         return &request->given_salt;
+    if (strcmp(option, "--classes") == 0)
+        return &request->classes;
     return strcmp(option, "--key") == 0 ? &request->key : NULL;
 }
 

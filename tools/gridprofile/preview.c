@@ -1,4 +1,4 @@
-/* gridprofile preview [FILE] */
+/* gridprofile preview [FILE] [--classes TABLE] */
 #include "program.h"
 
 #include <inttypes.h>
@@ -60,7 +60,7 @@ static int take(struct followed *all, struct step *step)
         return UNFINISHED;
     if (step->length == 1)
         return EMPTY;
-    answer = gridprofile_read_line(step->bytes, step->length, step->image, sizeof step->image);
+    answer = read_profile(step->bytes, step->length, step->image);
     return answer != 0 ? answer : keep(all, step);
 }
 
@@ -128,12 +128,16 @@ int run_preview(const struct request *request)
     static uint8_t lines[GRIDPROFILE_PREVIEW_MAX_BYTES + 1];
     static uint8_t listing[GRIDPROFILE_LISTING_BYTES];
     const char *path = request->arguments[0] != NULL ? request->arguments[0] : "-";
-    struct input inputs[] = {{.role = "FILE", .path = path, .bytes = lines, .room = sizeof lines}};
+    struct input inputs[] = {
+        {.role = "FILE", .path = path, .bytes = lines, .room = sizeof lines},
+        table_input(request->classes),
+    };
     size_t length = 0;
-    int status = read_inputs(inputs, COUNT(inputs)), answer;
+    int status = read_with_classes(request, inputs, 1), answer;
     if (status != 0)
         return status;
-    answer = gridprofile_preview(lines, inputs[0].length, listing, sizeof listing, &length);
+    answer = gridprofile_preview(classes, sizeof classes, lines, inputs[0].length, listing,
+                                 sizeof listing, &length);
     if (answer != 0)
         return refused("preview", answer, NULL, 0, NULL, 0);
     (void)fwrite(listing, 1, length, stdout);

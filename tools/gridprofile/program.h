@@ -72,13 +72,22 @@ struct part {
     size_t length;
 };
 
+/* A number of an image: four bytes, low byte first. */
+static inline uint32_t number_at(const uint8_t *at)
+{
+    return at[0] | (uint32_t)at[1] << 8 | (uint32_t)at[2] << 16 | (uint32_t)at[3] << 24;
+}
+
+/* The nominal volts that a line may have. */
+enum { LEAST_VOLTS = 100, MOST_VOLTS = 1000 };
+
 /* What is asked for. */
 struct request {
     const char *command;
     char *arguments[8]; /* in the number that the command takes, and NULL after the last */
     const struct category *category;
     int force;          /* replace an output that exists */
-    const char *given_master, *given_salt, *key; /* files, or NULL */
+    const char *given_master, *given_salt, *key, *classes; /* files, or NULL */
     unsigned wait;      /* seconds, for a lock that somebody else holds */
 };
 
@@ -191,10 +200,11 @@ extern const char *const unreplaceable;
 extern const char *const former_store_advice;
 void print_refusals(FILE *to);
 
-/* explain.c: what is wrong first with a line that the library refuses; `explain_whole_line` is for one of
- * which all was read, however long it is. The others are for more words on a field, which counts from 0:
- * its name, its content in so many characters at most and without controls, words for odd bytes in it,
- * and its rule. */
+/* explain.c: what is wrong first with a line that the library refuses under the table of this run;
+ * `explain_whole_line` is for one of which all was read, however long it is. The others are for more
+ * words on a field, which counts from 0: its name, its content in so many characters at most and
+ * without controls, words for odd bytes in it, its rule; words for one letter or for volts that are
+ * none, or NULL; and the value of digits. */
 void explain_line(FILE *to, const uint8_t *bytes, size_t length);
 void explain_whole_line(FILE *to, const uint8_t *bytes, size_t length);
 void print_field_name(FILE *to, size_t field);
@@ -202,11 +212,55 @@ void print_part(FILE *to, struct part part, size_t most);
 const char *odd_bytes(struct part part, const char *otherwise);
 int has_any(struct part part, const char *bytes);
 void print_field_rule(FILE *to, size_t field);
+const char *letter_trouble(struct part part);
+const char *volts_trouble(struct part part);
+uint64_t value_in(struct part digits);
 
 /* formulas.c: what is wrong first with a line that evaluating refuses with this answer. */
 void explain_formulas(FILE *to, int answer, struct part line);
 
-/* words.c: prints a profile's image, or answers 5 where it breaks a rule. */
+/* table.c: class tables. `classes` is the image of the one that this run goes by: zeros, which are the
+ * built-in classes, until a command takes another from a file or a store. `class_of` is the letter of
+ * the class that volts have in it, or 0 in a gap; `is_class` tells whether a letter is one of it.
+ * `print_letters` prints "A, B and C", `print_ranges` what a class of this run's table must be.
+ * `read_profile` and `write_profile` are the library's entries on lines under that table. */
+struct row {
+    uint32_t letter, low, high;
+};
+extern uint8_t classes[GRIDPROFILE_TABLE_IMAGE_BYTES];
+void use_table(const uint8_t *image);
+int is_built_in(const uint8_t *table);
+size_t count_rows(const uint8_t *table);
+struct row row_at(const uint8_t *table, size_t at);
+uint32_t class_of(uint32_t volts);
+int is_class(uint32_t letter);
+void print_letters(FILE *to, const uint8_t *table);
+void print_ranges(FILE *to);
+int read_profile(const uint8_t *line, size_t length, uint8_t *image);
+int write_profile(const uint8_t *image, uint8_t *line, size_t *length);
+int is_line_of_some_table(const uint8_t *line, size_t length);
+
+/* table_file.c: a class table as a file, of which so many bytes are looked at. `print_rows` prints a
+ * table as its file, `print_table` in words; `is_loaded_table` tells whether an image is one that loads
+ * leave, `looks_like_table` whether a text is meant as a table; `explain_table` says what is wrong
+ * first with one that the library refuses. */
+enum { MOST_TABLE_BYTES = 65536 };
+struct input table_input(const char *path);
+void print_rows(FILE *to, const uint8_t *table);
+void print_table(const uint8_t *table);
+int is_loaded_table(const uint8_t *table);
+int looks_like_table(struct part text);
+void explain_table(FILE *to, const struct input *table);
+
+/* classes.c: `take_classes` makes the table that was read for --classes, where that is given, the one
+ * of this run; `read_with_classes` does so after it has read the inputs, of which the one at place
+ * `table`, the last, is that table; `refuse_table` is for a table that the library refused. Each
+ * answers 0 or the exit status. */
+int take_classes(const struct request *request, const struct input *table);
+int read_with_classes(const struct request *request, struct input *inputs, size_t table);
+int refuse_table(const char *command, const struct input *table);
+
+/* words.c: prints a profile's image, or answers 5 where it breaks a rule under the table of this run. */
 uint32_t serial_of(const uint8_t *image);
 uint32_t volts_of(const uint8_t *image);
 uint32_t hertz_of(const uint8_t *image);
@@ -216,25 +270,30 @@ int print_profile(const uint8_t *image);
 /* fingerprint.c: the name of a public key. */
 void print_fingerprint(FILE *to, const struct category *category, const uint8_t *key);
 
-/* store_file.c: a store's image with its checksum behind it. `open_store` looks at what was read and
- * sets the length to the image's where there is one, `read_store` also reads it, `check_slots` looks at
- * what the image holds, `blame_store` at whether that is why a search in it failed; each answers 0 or
- * the exit status. `slot_at` is the profile of a slot. `is_same_triple` tells whether two profiles are
- * for one country, class and hertz: a store has one for each. `compare_triples` tells, as memcmp does,
- * which comes first where profiles are listed: by country, then class, then hertz. */
+/* store_file.c: a store's image with its checksum behind it. `open_store` looks at what was read, makes
+ * the store's class table that of this run, and sets the length to the image's where there is one;
+ * `read_store` also reads it, `read_locked` under the lock of what it is to become, which `write_store`
+ * then writes. `check_table` looks at the store's table, `check_image` at that and at the slots,
+ * `blame_store` at whether that is why a search in it failed; each answers 0 or the exit status.
+ * `slot_at` is the profile of a slot. `is_same_triple` tells whether two profiles are for one country,
+ * class and hertz: a store has one for each. `compare_triples` tells, as memcmp does, which comes first
+ * where profiles are listed: by country, then class, then hertz. */
 #define CHECKSUM_BYTES 32
 #define STORE_FILE_BYTES (GRIDPROFILE_STORE_IMAGE_BYTES + CHECKSUM_BYTES)
 struct input store_input(const char *path, uint8_t *bytes);
 int open_store(struct input *store);
 int read_store(struct input *store);
-void seal_store(uint8_t *bytes);
-int check_slots(const struct input *store);
+int read_locked(struct output *output, struct input *store);
+int write_store(struct output *output, uint8_t *bytes);
+int check_table(const struct input *store);
+int check_image(const struct input *store);
 int blame_store(const char *command, int answer, const struct input *store);
 const uint8_t *slot_at(const uint8_t *image, size_t slot);
 int compare_triples(const uint8_t *one, const uint8_t *other);
 int is_same_triple(const uint8_t *one, const uint8_t *other);
 
-/* verify.c: the loader's answers 1 to 5, in its order, for any device and any store. */
+/* verify.c: the loader's answers 1 to 5, in its order, for any device and any store with the classes of
+ * this run. */
 int verify_package(const struct category *category, const uint8_t *key, size_t key_length,
                    const uint8_t *package, size_t length);
 
@@ -256,5 +315,6 @@ int run_nearest(const struct request *request);
 int run_show(const struct request *request);
 int run_preview(const struct request *request);
 int run_evaluate(const struct request *request);
+int run_classes(const struct request *request);
 
 #endif

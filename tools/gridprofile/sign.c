@@ -1,4 +1,4 @@
-/* gridprofile sign PRIVATE LINE PACKAGE [--category 1|3|5] [--key KEY]
+/* gridprofile sign PRIVATE LINE PACKAGE [--category 1|3|5] [--classes TABLE] [--key KEY]
  *     [--given-master-seed MASTER --given-salt SALT] */
 #include "program.h"
 
@@ -16,10 +16,11 @@ static uint8_t given_key[MOST_KEY_BYTES + 1];
 static uint8_t key[MOST_KEY_BYTES], package[MOST_PACKAGE_BYTES];
 static size_t package_length;
 
-/* In this order: the key where it is given, and the last two where seeds are. */
-enum { PRIVATE, LINE_FILE, KEY_FILE, MASTER, SALT, INPUTS };
-static struct input inputs[INPUTS];
-static size_t input_count;
+/* In this order: the class table and the key where they are given, and the last two where seeds are. So
+ * those that are given stand side by side. */
+enum { TABLE, PRIVATE, LINE_FILE, KEY_FILE, MASTER, SALT, INPUTS };
+static struct input inputs[INPUTS], *given;
+static size_t given_count;
 
 static int answer, own_answer;
 static const char *reused;
@@ -30,6 +31,7 @@ static void list_inputs(const struct request *request)
     line_file.room = sizeof line;
     line_file.least = GRIDPROFILE_LINE_MIN_BYTES;
     line_file.most = GRIDPROFILE_LINE_MAX_BYTES;
+    inputs[TABLE] = table_input(request->classes);
     inputs[PRIVATE] = sized_input(category, PRIVATE_SIZE, request->arguments[0], private_seed,
                                   sizeof private_seed);
     inputs[LINE_FILE] = line_file;
@@ -37,15 +39,17 @@ static void list_inputs(const struct request *request)
     inputs[MASTER] = sized_input(category, MASTER_SIZE, request->given_master, master_seed,
                                  sizeof master_seed);
     inputs[SALT] = sized_input(category, SALT_SIZE, request->given_salt, salt, sizeof salt);
-    input_count = request->given_master != NULL ? INPUTS : request->key != NULL ? MASTER : KEY_FILE;
+    given = inputs + (request->classes != NULL ? TABLE : PRIVATE);
+    given_count = request->given_master != NULL ? INPUTS : request->key != NULL ? MASTER : KEY_FILE;
+    given_count -= (size_t)(given - inputs);
 }
 
 static void sign(void)
 {
-    answer = category->make_package(private_seed, inputs[PRIVATE].length, master_seed,
-                                    inputs[MASTER].length, salt, inputs[SALT].length, line,
-                                    inputs[LINE_FILE].length, package, category->most_package,
-                                    &package_length);
+    answer = category->make_package(classes, sizeof classes, private_seed, inputs[PRIVATE].length,
+                                    master_seed, inputs[MASTER].length, salt, inputs[SALT].length,
+                                    line, inputs[LINE_FILE].length, package,
+                                    category->most_package, &package_length);
 }
 
 static int sign_drawn(void)
@@ -95,7 +99,7 @@ static int refuse(const struct request *request)
 {
     const struct input *read = &inputs[LINE_FILE];
     int is_line = answer == GRIDPROFILE_BAD_PROFILE || !is_size_taken(read);
-    return refused(request->command, answer, inputs, input_count, is_line ? line : NULL,
+    return refused(request->command, answer, given, given_count, is_line ? line : NULL,
                    read->length);
 }
 
@@ -164,7 +168,7 @@ static int report(struct output *output)
     int status = write_output(output, package, package_length);
     if (status != 0)
         return status;
-    (void)gridprofile_read_line(line, inputs[LINE_FILE].length, profile, sizeof profile);
+    (void)read_profile(line, inputs[LINE_FILE].length, profile);
     if (serial_of(profile) == UINT32_MAX)
         warn(input_name(&inputs[LINE_FILE]), unreplaceable);
     fputs("Signed and verified: ", report_of(output));
@@ -181,11 +185,13 @@ int run_sign(const struct request *request)
         return status;
     category = request->category;
     list_inputs(request);
-    status = prepare(&output, request, request->arguments[2], PACKAGE, inputs, input_count);
+    status = prepare(&output, request, request->arguments[2], PACKAGE, given, given_count);
     if (status == 0)
-        status = spare_lines(request, inputs, input_count);
+        status = spare_lines(request, given, given_count);
     if (status == 0)
         status = spare_closed_salt(request);
+    if (status == 0)
+        status = take_classes(request, &inputs[TABLE]);
     if (status == 0)
         status = sign_and_check(request);
     wipe(private_seed, sizeof private_seed);

@@ -18,16 +18,22 @@ static void make_checksum(const uint8_t *image, uint8_t *checksum)
     gridprofile_shake128(image, GRIDPROFILE_STORE_IMAGE_BYTES, checksum, CHECKSUM_BYTES);
 }
 
-/* Any other size is left to the library, which refuses it. */
+static const uint8_t *table_of(const struct input *store)
+{
+    return store->bytes + GRIDPROFILE_STORE_TABLE_OFFSET;
+}
+
+/* Any other size is left to the library, which refuses it and goes by the built-in classes till then. */
 int open_store(struct input *store)
 {
     uint8_t checksum[CHECKSUM_BYTES];
+    if (store->length != GRIDPROFILE_STORE_IMAGE_BYTES && store->length != STORE_FILE_BYTES)
+        return 0;
+    use_table(table_of(store));
     if (store->length == GRIDPROFILE_STORE_IMAGE_BYTES) {
         warn(input_name(store), "this store has no checksum, so that damage is not seen; a load adds one");
         return 0;
     }
-    if (store->length != STORE_FILE_BYTES)
-        return 0;
     make_checksum(store->bytes, checksum);
     if (memcmp(checksum, store->bytes + GRIDPROFILE_STORE_IMAGE_BYTES, sizeof checksum) != 0)
         return damaged_store(input_name(store), "its checksum does not fit what it holds");
@@ -41,9 +47,24 @@ int read_store(struct input *store)
     return status != 0 ? status : open_store(store);
 }
 
-void seal_store(uint8_t *bytes)
+/* What is read by a load is read under the lock, and nothing else is: what comes by a stream can take
+ * long. A load puts a fresh checksum over the whole, so that what is damaged must be seen before. */
+int read_locked(struct output *output, struct input *store)
+{
+    int status = lock_output(output);
+    if (!is_stream(output->path))
+        store->target = output->target;
+    if (status == 0)
+        status = read_store(store);
+    if (status == 0 && store->length == GRIDPROFILE_STORE_IMAGE_BYTES)
+        status = check_image(store);
+    return status;
+}
+
+int write_store(struct output *output, uint8_t *bytes)
 {
     make_checksum(bytes, bytes + GRIDPROFILE_STORE_IMAGE_BYTES);
+    return write_output(output, bytes, STORE_FILE_BYTES);
 }
 
 const uint8_t *slot_at(const uint8_t *image, size_t slot)
@@ -57,13 +78,12 @@ static int is_empty(const uint8_t *slot)
     return memcmp(slot, zeros, sizeof zeros) == 0;
 }
 
-/* A used slot is the image of its own line. */
+/* A used slot is the image of its own line, under the store's table. */
 static int is_profile(const uint8_t *slot)
 {
     uint8_t line[GRIDPROFILE_LINE_MAX_BYTES], image[GRIDPROFILE_PROFILE_IMAGE_BYTES];
     size_t length = 0;
-    return gridprofile_write_line(slot, sizeof image, line, sizeof line, &length) == 0 &&
-           gridprofile_read_line(line, length, image, sizeof image) == 0 &&
+    return write_profile(slot, line, &length) == 0 && read_profile(line, length, image) == 0 &&
            memcmp(slot, image, sizeof image) == 0;
 }
 
@@ -100,12 +120,21 @@ static size_t unsound_slot(const uint8_t *image)
     return slot < GRIDPROFILE_STORE_SLOTS ? slot + 1 : 0;
 }
 
-int check_slots(const struct input *store)
+int check_table(const struct input *store)
+{
+    if (is_loaded_table(table_of(store)))
+        return 0;
+    return damaged_store(input_name(store), "its class table is one that no load leaves there");
+}
+
+/* The table comes first: what a slot holds is judged by it. */
+int check_image(const struct input *store)
 {
     char how[80];
-    size_t slot = unsound_slot(store->bytes);
+    int status = check_table(store);
+    size_t slot = status != 0 ? 0 : unsound_slot(store->bytes);
     if (slot == 0)
-        return 0;
+        return status;
     (void)snprintf(how, sizeof how, "slot %zu holds what no load leaves there", slot);
     return damaged_store(input_name(store), how);
 }
@@ -114,7 +143,7 @@ int check_slots(const struct input *store)
 int blame_store(const char *command, int answer, const struct input *store)
 {
     if (answer == GRIDPROFILE_NOT_STORED)
-        return check_slots(store);
+        return check_image(store);
     if (answer == GRIDPROFILE_BAD_PROFILE)
         return refused_because(command, answer,
                                "the stored profile breaks a rule: the store is damaged",

@@ -29,12 +29,16 @@ static const struct refusal refusals[] = {
      "a store never drops a profile: use another store file for this device"},
     {"nothing is stored for this country, class and hertz",
      "load a package for it first; `gridprofile show` prints what is stored, which may be for other hertz"},
-    {"the country is not two letters A to Z, the class not one of A to D, or the hertz not 50 or 60",
+    {"the country is not two letters A to Z, the class none of the store's, or hertz not 50 or 60",
      "write them as in: XA B 50"},
     {"a limit is no formula: empty, outside the grammar, over 64 characters or over 8 deep",
      "correct the formula; `gridprofile help evaluate` has the rules"},
     {"a formula divides by 0, or a result in it is outside -2000000000 to 2000000000",
      "correct the formula; `gridprofile help evaluate` has the rules"},
+    {"the class table breaks a rule of its file",
+     "correct the table; `gridprofile help classes` has the rules"},
+    {"the store holds profiles, and a class table can be loaded only while it is empty",
+     "make another store by `gridprofile new-store`, and load the table into it before the packages"},
 };
 
 /* A byte that a terminal could take for an order: of a control, also of one that UTF-8 writes as C2 80
@@ -90,7 +94,7 @@ void warn(const char *path, const char *what)
 /* Of a profile with the greatest serial. */
 const char *const unreplaceable = "this serial is the greatest: nothing can replace the profile";
 
-/* Of a store whose profiles have no place for a rate point. */
+/* Of a store that has no place for rate points, or none for a class table. */
 const char *const former_store_advice =
     "a store of this layout is not converted: make a new one by `gridprofile new-store` and load its "
     "packages again";
@@ -243,14 +247,33 @@ static void print_size_advice(const struct input *inputs, size_t count)
                 "all sizes.\n", told.category->number);
 }
 
-/* A refused line that the library evaluates is wrong in its formulas alone. */
-static const char *line_advice(const uint8_t *line, size_t length)
+/* A refused line that the library evaluates is wrong in its formulas alone, and one that is a line
+ * under another table in its class alone: then it may be meant for that table. */
+static const char *line_advice(const char *command, const uint8_t *line, size_t length)
 {
     uint8_t plain[GRIDPROFILE_LINE_MAX_BYTES];
     size_t plain_length = 0;
-    if (gridprofile_evaluate_line(line, length, plain, sizeof plain, &plain_length) == 0)
+    if (gridprofile_evaluate_line(classes, sizeof classes, line, length, plain, sizeof plain,
+                                  &plain_length) == 0)
         return "this line has formulas: `gridprofile evaluate` turns them into numbers; sign what it prints";
-    return refusals[GRIDPROFILE_BAD_PROFILE - 1].advice;
+    if (!is_line_of_some_table(line, length))
+        return refusals[GRIDPROFILE_BAD_PROFILE - 1].advice;
+    if (strcmp(command, "load") == 0)
+        return "correct the line and sign it again, or load the package into a store with its class table; "
+               "`gridprofile classes STORE` prints that of a store";
+    return "correct the line, or name the class table that it is for by --classes; `gridprofile help line` "
+           "has the rules";
+}
+
+/* What a device may be set to: the classes are those of the store. */
+static void print_device_advice(void)
+{
+    uint32_t first = row_at(classes, 0).letter;
+    fprintf(stderr, "  What to do: write them as in: XA %c 50; the %s are ",
+            is_built_in(classes) || !is_class(first) ? 'B' : (int)first,
+            is_built_in(classes) ? "built-in classes" : "classes of this store");
+    print_letters(stderr, classes);
+    fputs(".\n", stderr);
 }
 
 int refused(const char *command, int answer, const struct input *inputs, size_t count,
@@ -264,8 +287,10 @@ int refused(const char *command, int answer, const struct input *inputs, size_t 
         explain_line(stderr, line, length);
     if (line == NULL && answer == GRIDPROFILE_BAD_SIZE)
         print_size_advice(inputs, count);
+    else if (answer == GRIDPROFILE_BAD_DEVICE)
+        print_device_advice();
     else
-        print_advice(line != NULL ? line_advice(line, length) : refusal->advice);
+        print_advice(line != NULL ? line_advice(command, line, length) : refusal->advice);
     return answer;
 }
 

@@ -1,4 +1,4 @@
-/* gridprofile verify KEY PACKAGE */
+/* gridprofile verify KEY PACKAGE [--classes TABLE] */
 #include "program.h"
 
 int verify_package(const struct category *category, const uint8_t *key, size_t key_length,
@@ -11,7 +11,7 @@ int verify_package(const struct category *category, const uint8_t *key, size_t k
         return GRIDPROFILE_BAD_SIZE;
     length -= category->signature;
     answer = category->verify(key, key_length, line, length, package, category->signature);
-    return answer != 0 ? answer : gridprofile_read_line(line, length, profile, sizeof profile);
+    return answer != 0 ? answer : read_profile(line, length, profile);
 }
 
 /* The line of a verified package. */
@@ -19,8 +19,7 @@ static void print_line_of(const struct input *package)
 {
     size_t signature = package->category->signature;
     uint8_t profile[GRIDPROFILE_PROFILE_IMAGE_BYTES];
-    (void)gridprofile_read_line(package->bytes + signature, package->length - signature, profile,
-                                sizeof profile);
+    (void)read_profile(package->bytes + signature, package->length - signature, profile);
     print_device(stdout, profile);
 }
 
@@ -31,15 +30,15 @@ int run_verify(const struct request *request)
     struct input inputs[] = {
         sized_input(category, KEY_SIZE, request->arguments[0], key, sizeof key),
         sized_input(category, PACKAGE_SIZE, request->arguments[1], package, sizeof package),
+        table_input(request->classes),
     };
-    int status = check_streams(request, inputs, COUNT(inputs)), answer;
-    if (status == 0)
-        status = read_inputs(inputs, COUNT(inputs));
+    size_t count = request->classes != NULL ? 3 : 2;
+    int status = read_with_classes(request, inputs, 2), answer;
     if (status != 0)
         return status;
     answer = verify_package(category, key, inputs[0].length, package, inputs[1].length);
     if (answer != 0)
-        return refused_package(request->command, answer, inputs, COUNT(inputs), &inputs[1]);
+        return refused_package(request->command, answer, inputs, count, &inputs[1]);
     fputs("The signature holds, and the line is a profile: ", stdout);
     print_line_of(&inputs[1]);
     print_fingerprint(stdout, category, key);

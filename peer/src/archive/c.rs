@@ -10,17 +10,43 @@ extern "C" {
     pub fn gridprofile_unpack_values(packed: In, packed_len: usize, values: Out, values_len: usize) -> u8;
     pub fn gridprofile_pack_exponents(exponents: In, exponents_len: usize, packed: Out, packed_len: usize) -> u8;
     pub fn gridprofile_unpack_exponents(packed: In, packed_len: usize, exponents: Out, exponents_len: usize) -> u8;
-    pub fn gridprofile_read_line(line: In, line_len: usize, profile: Out, profile_len: usize) -> u8;
+    pub fn gridprofile_read_line(
+        table: In,
+        table_len: usize,
+        line: In,
+        line_len: usize,
+        profile: Out,
+        profile_len: usize,
+    ) -> u8;
     pub fn gridprofile_write_line(
+        table: In,
+        table_len: usize,
         profile: In,
         profile_len: usize,
         line: Out,
         line_len: usize,
         length: *mut usize,
     ) -> u8;
-    pub fn gridprofile_evaluate_line(input: In, input_len: usize, line: Out, line_len: usize, length: *mut usize)
-        -> u8;
-    pub fn gridprofile_preview(input: In, input_len: usize, out: Out, out_len: usize, length: *mut usize) -> u8;
+    pub fn gridprofile_evaluate_line(
+        table: In,
+        table_len: usize,
+        input: In,
+        input_len: usize,
+        line: Out,
+        line_len: usize,
+        length: *mut usize,
+    ) -> u8;
+    pub fn gridprofile_preview(
+        table: In,
+        table_len: usize,
+        input: In,
+        input_len: usize,
+        out: Out,
+        out_len: usize,
+        length: *mut usize,
+    ) -> u8;
+    pub fn gridprofile_read_table(file: In, file_len: usize, table: Out, table_len: usize) -> u8;
+    pub fn gridprofile_load_table(store: Out, store_len: usize, file: In, file_len: usize) -> u8;
     pub fn gridprofile_lookup(
         store: In,
         store_len: usize,
@@ -58,8 +84,9 @@ pub type Verify = unsafe extern "C" fn(In, usize, In, usize, In, usize) -> u8;
 pub type VerifyRound =
     unsafe extern "C" fn(In, usize, In, usize, u32, In, usize, In, usize, u32, In, usize, u32, In, usize) -> u8;
 
-/// Private seed, master seed, salt, line, package, length.
-pub type MakePackage = unsafe extern "C" fn(In, usize, In, usize, In, usize, In, usize, Out, usize, *mut usize) -> u8;
+/// Table, private seed, master seed, salt, line, package, length.
+pub type MakePackage =
+    unsafe extern "C" fn(In, usize, In, usize, In, usize, In, usize, In, usize, Out, usize, *mut usize) -> u8;
 
 /// Store, key, package, country, class, hertz.
 pub type Load = unsafe extern "C" fn(Out, usize, In, usize, In, usize, In, usize, u32, u32) -> u8;
@@ -130,6 +157,8 @@ macro_rules! category {
                 reply_len: usize,
             ) -> u8;
             pub fn $make_package(
+                table: In,
+                table_len: usize,
                 private_seed: In,
                 private_seed_len: usize,
                 master_seed: In,

@@ -85,11 +85,19 @@ impl Category {
     }
 
     /// The answer, and the length: what it was before, where the entry did not write it.
-    pub fn make_package(&self, seeds: [&[u8]; 3], line: &[u8], package: &mut [u8], mut length: usize) -> (u8, usize) {
-        let [(a, b), (c, d), (e, f)] = seeds.map(|s| (s.as_ptr(), s.len()));
-        let ((g, h), (i, j)) = ((line.as_ptr(), line.len()), (package.as_mut_ptr(), package.len()));
+    pub fn make_package(
+        &self,
+        table: &[u8],
+        [private, master, salt]: [&[u8]; 3],
+        line: &[u8],
+        package: &mut [u8],
+        mut length: usize,
+    ) -> (u8, usize) {
+        let slices = [table, private, master, salt, line].map(|s| (s.as_ptr(), s.len()));
+        let [(a, b), (c, d), (e, f), (g, h), (i, j)] = slices;
+        let (k, l) = (package.as_mut_ptr(), package.len());
         // SAFETY: as above; the length is a variable of its own.
-        let answer = unsafe { (self.functions.make_package)(a, b, c, d, e, f, g, h, i, j, &mut length) };
+        let answer = unsafe { (self.functions.make_package)(a, b, c, d, e, f, g, h, i, j, k, l, &mut length) };
         (answer, length)
     }
 

@@ -8,6 +8,7 @@ use super::*;
 use crate::formula::cases::{aimed, any as any_formula, failing, missed, noise, of_length};
 use crate::formula::LONGEST as LONGEST_FORMULA;
 use crate::line::cases::{fields as plain_fields, texts, valid};
+use crate::line::Profile;
 use crate::rng::Rng;
 use std::ops::RangeInclusive;
 
@@ -47,8 +48,13 @@ fn number_of(field: &str) -> i64 {
 
 /// The fields of some valid line. Mostly its limits are formulas that give its numbers, and some stay as they are.
 pub fn good(rng: &mut Rng) -> Vec<Vec<u8>> {
-    let (profile, plain) = (valid(rng), rng.below(4));
-    let mut all = plain_fields(&profile);
+    let profile = valid(rng);
+    good_of(rng, &profile)
+}
+
+/// The same of this profile's line, which may break a rule.
+pub fn good_of(rng: &mut Rng, profile: &Profile) -> Vec<Vec<u8>> {
+    let (mut all, plain) = (plain_fields(profile), rng.below(4));
     for (at, _) in LIMITS {
         if let Some(field) = all.get_mut(at).filter(|_| rng.below(4) >= plain) {
             *field = aimed(rng, profile.volts, number_of(field));
@@ -93,10 +99,10 @@ fn ended(rng: &mut Rng, mut line: Vec<u8>) -> Vec<u8> {
     line
 }
 
-/// A valid line with the longest limits that it may have, and a limit that is too long, mostly: the whole has about as
-/// many bytes as it may.
-fn lengthy(rng: &mut Rng) -> Vec<u8> {
-    let mut all = plain_fields(&valid(rng));
+/// The line with the longest limits that it may have, and a limit that is too long, mostly: the whole has about as many
+/// bytes as it may.
+fn lengthy(rng: &mut Rng, profile: &Profile) -> Vec<u8> {
+    let mut all = plain_fields(profile);
     for (at, _) in LIMITS {
         if let Some(field) = all.get_mut(at) {
             *field = of_length(number_of(field), LONGEST_FORMULA - usize::from(rng.below(8) == 0));
@@ -114,7 +120,13 @@ fn lengthy(rng: &mut Rng) -> Vec<u8> {
 /// Any input: one that is good; with one limit or two of another kind; with another field that is at a boundary; with
 /// one byte other; with another end; as long as it may be; or noise.
 pub fn any(rng: &mut Rng) -> Vec<u8> {
-    let mut all = good(rng);
+    let profile = valid(rng);
+    any_of(rng, &profile)
+}
+
+/// The same of this profile's line.
+pub fn any_of(rng: &mut Rng, profile: &Profile) -> Vec<u8> {
+    let mut all = good_of(rng, profile);
     match rng.below(20) {
         0..=6 => (),
         7..=10 => spoil(rng, &mut all),
@@ -126,7 +138,7 @@ pub fn any(rng: &mut Rng) -> Vec<u8> {
         }
         15 | 16 => return missed(rng, &joined(&all)),
         17 => return ended(rng, joined(&all)),
-        18 => return lengthy(rng),
+        18 => return lengthy(rng, profile),
         _ => return [noise(rng), noise(rng), noise(rng)].join(&b','),
     }
     joined(&all)

@@ -8,9 +8,11 @@ use crate::formula::cases::{in_pairs, named, of_length};
 use crate::line::cases::{handed_out, texts, valid};
 use crate::line::write_line;
 use crate::rng::Rng;
+use crate::table::cases::RAILWAY;
+use crate::table::{read_table, BUILT_IN, BUILT_IN_IMAGE};
 
 fn answer(input: &[u8]) -> Result<Vec<u8>, Refusal> {
-    handed_out(|out, length| evaluate_line(input, out, length))
+    handed_out(|out, length| evaluate_line(&BUILT_IN_IMAGE, input, out, length))
 }
 
 #[test]
@@ -36,7 +38,7 @@ fn named_formulas_as_limits() {
 fn plain_lines_stay() {
     let mut rng = Rng::new(70);
     for _ in 0..20_000 {
-        let line = write_line(&valid(&mut rng)).unwrap();
+        let line = write_line(&BUILT_IN, &valid(&mut rng)).unwrap();
         assert_eq!(answer(&line), Ok(line));
     }
 }
@@ -48,7 +50,7 @@ fn good_lines() {
     for _ in 0..20_000 {
         let input = joined(&good(&mut rng));
         let line = answer(&input).expect("good");
-        assert!(read_line(&line).is_ok());
+        assert!(read_line(&BUILT_IN, &line).is_ok());
         assert_eq!(answer(&line).as_ref(), Ok(&line));
         (shortest, longest) = (shortest.min(input.len()), longest.max(input.len()));
     }
@@ -96,12 +98,35 @@ fn sizes() {
     let (line, long) = (PLAIN[0].as_bytes(), [b'1'; 401]);
     for room in 0..=168 {
         let (mut out, wanted) = (vec![7; room], if room == 84 { (0, 56) } else { (1, 99) });
-        assert_eq!(evaluate_line(line, &mut out, 99), wanted, "{room}");
+        assert_eq!(evaluate_line(&BUILT_IN_IMAGE, line, &mut out, 99), wanted, "{room}");
     }
     assert_eq!([0, 1, 400, 401].map(|len| answer(&long[..len])), [Err(5), Err(5), Err(5), Err(1)]);
     let lengths = LISTED.map(|(name, input, _)| (name, input.len()));
     for wanted in [("the fewest bytes", 41), ("the most bytes", 312), ("the most bytes with a rate", 383)] {
         assert!(lengths.contains(&wanted), "{wanted:?}");
+    }
+}
+
+/// Class and volts go by the table that is lent, before any formula; a table of another size is 1.
+#[test]
+fn under_a_table() {
+    let table = read_table(RAILWAY.as_bytes()).unwrap().image();
+    let of = |table: &[u8], input: &str| handed_out(|out, length| evaluate_line(table, input.as_bytes(), out, length));
+    let line = |class: char, volts: u32, limit: &str| {
+        format!("GP1,XA,{class},14,{volts},50,{limit},100,800,1500,1500,100,-2500,100\n")
+    };
+    let railway = [('R', 750, 0), ('R', 600, 0), ('R', 599, 5), ('D', 750, 5), ('M', 500, 5), ('T', 1_000, 0)];
+    let built_in = [('D', 750, 0), ('R', 750, 5), ('C', 500, 0), ('B', 230, 0), ('M', 230, 5)];
+    let all = railway.map(|case| (table, case)).into_iter().chain(built_in.map(|case| (BUILT_IN_IMAGE, case)));
+    for (table, (class, volts, due)) in all {
+        let wanted = |refusal: Refusal| if due == 0 { Err(refusal) } else { Err(due) };
+        let good = of(&table, &line(class, volts, "N*0+1150"));
+        assert_eq!(good, if due == 0 { Ok(line(class, volts, "1150").into_bytes()) } else { Err(due) });
+        assert_eq!(of(&table, &line(class, volts, "1/0")), wanted(12), "{class} {volts}");
+        assert_eq!(of(&table, &line(class, volts, "")), wanted(11), "{class} {volts}");
+    }
+    for len in [0, 1, 315, 317, 632] {
+        assert_eq!(of(&vec![0; len], &line('D', 750, "1/0")), Err(1), "{len}");
     }
 }
 
@@ -114,7 +139,7 @@ fn every_answer_comes() {
         let at = match answer(&input) {
             Ok(_) => 0,
             Err(1) => 1,
-            Err(5) if Frame::of(&input).is_err() => 2,
+            Err(5) if Frame::of(&BUILT_IN, &input).is_err() => 2,
             Err(5) => 3,
             Err(refusal) => usize::from(refusal - 7),
         };

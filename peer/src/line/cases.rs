@@ -2,6 +2,7 @@
 
 use super::*;
 use crate::rng::Rng;
+use crate::table::BUILT_IN;
 
 /// What an entry answers that writes a line into lent bytes, and the line: past it, and after a refusal, bytes and length
 /// are as they were.
@@ -31,16 +32,20 @@ pub fn some_rate(rng: &mut Rng) -> Rate {
     Rate { limit: within(rng, &RATES), delay: within(rng, &DELAYS) }
 }
 
-/// Some valid profile, in one of two with a rate point.
+/// Some profile that is valid under the built-in classes, in one of two with a rate point.
 pub fn valid(rng: &mut Rng) -> Profile {
-    let ends = [100..=139, 140..=259, 260..=519, 520..=1_000];
-    let class = rng.below(4);
-    let volts = within(rng, &ends[class]);
+    valid_under(rng, &BUILT_IN)
+}
+
+/// The same under any sound table.
+pub fn valid_under(rng: &mut Rng, table: &Table) -> Profile {
+    let row = table.rows()[rng.below(table.rows().len())];
+    let volts = within(rng, &(row.low..=row.high));
     let mut letter = || b'A' + within(rng, &(0..=25)) as u8;
     let country = [letter(), letter()];
     Profile {
         country,
-        class: class_of(volts).expect("100 to 1000"),
+        class: table.class_of(volts).expect("a sound row"),
         serial: within(rng, &(1..=u32::MAX)),
         volts,
         hertz: NOMINAL_HERTZ[rng.below(2)],
@@ -61,8 +66,8 @@ fn longer(profile: &Profile, at: usize) -> Option<Profile> {
     let mut next = *profile;
     let number = numbers(&mut next).swap_remove(at);
     *number = number.checked_mul(10)?;
-    next.class = class_of(next.volts)?;
-    next.is_valid().then_some(next)
+    next.class = BUILT_IN.class_of(next.volts)?;
+    next.is_valid(&BUILT_IN).then_some(next)
 }
 
 /// Valid profiles with a rate point or without: the first has the shortest line, each other one that is a byte longer,

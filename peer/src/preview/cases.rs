@@ -7,21 +7,28 @@ pub use listed::{
 };
 
 use super::*;
-use crate::line::cases::{by_length, valid};
-use crate::line::{class_of, write_line, Profile, NOMINAL_HERTZ};
+use crate::line::cases::{by_length, fields, joined, valid, valid_under};
+use crate::line::{write_line, Profile, NOMINAL_HERTZ};
 use crate::rng::Rng;
+use crate::table::cases::some_profile;
+use crate::table::BUILT_IN;
 use listed::AFTER_SIXTEEN;
 
 pub fn written(profile: &Profile) -> String {
-    String::from_utf8(write_line(profile).expect("valid")).expect("letters and digits")
+    String::from_utf8(write_line(&BUILT_IN, profile).expect("valid")).expect("letters and digits")
 }
 
-/// A valid line of one of a few countries, with a small serial, so that triples come again. Nine countries differ in
+/// The profile for one of a few countries, with a small serial, so that triples come again. Nine countries differ in
 /// both letters.
-pub fn line(rng: &mut Rng, countries: usize) -> String {
+fn brought(rng: &mut Rng, countries: usize, profile: fn(&mut Rng, &Table) -> Profile, table: &Table) -> Profile {
     let at = rng.below(countries) as u8;
     let country = [b'X' + at / 3, b'A' + at % 3];
-    written(&Profile { country, serial: 1 + rng.below(9) as u32, ..valid(rng) })
+    Profile { country, serial: 1 + rng.below(9) as u32, ..profile(rng, table) }
+}
+
+/// A valid line of one of these countries.
+pub fn line(rng: &mut Rng, countries: usize) -> String {
+    written(&brought(rng, countries, valid_under, &BUILT_IN))
 }
 
 fn lines(rng: &mut Rng, count: usize, countries: usize) -> String {
@@ -59,7 +66,7 @@ pub fn permutations(lines: &str) -> Vec<String> {
 fn one_of_32(rng: &mut Rng, at: usize) -> Profile {
     let country = [b'A' + (at / 16) as u8, b'A' + (at / 8 % 2) as u8];
     let volts = [120, 230, 400, 690][at / 2 % 4];
-    let class = class_of(volts).expect("100 to 1000");
+    let class = BUILT_IN.class_of(volts).expect("100 to 1000");
     Profile { country, class, volts, hertz: NOMINAL_HERTZ[at % 2], ..valid(rng) }
 }
 
@@ -171,7 +178,20 @@ pub fn named(rng: &mut Rng) -> Vec<(&'static str, Vec<u8>)> {
 /// Lines of a few countries, some of them damaged.
 pub fn any(rng: &mut Rng) -> Vec<u8> {
     let (count, countries) = (rng.below(60), 1 + rng.below(9));
-    let mut input = lines(rng, count, countries).into_bytes();
+    let input = lines(rng, count, countries).into_bytes();
+    damaged(rng, input)
+}
+
+/// The same under any table: a part of the lines breaks its rules of class and volts.
+pub fn any_under(rng: &mut Rng, table: &Table) -> Vec<u8> {
+    let (count, countries) = (rng.below(60), 1 + rng.below(9));
+    let lines = (0..count).flat_map(|_| joined(&fields(&brought(rng, countries, some_profile, table))));
+    let input = lines.collect();
+    damaged(rng, input)
+}
+
+/// Up to three bytes changed, and one of two cut near its end.
+fn damaged(rng: &mut Rng, mut input: Vec<u8>) -> Vec<u8> {
     for _ in 0..rng.below(4) {
         if !input.is_empty() {
             let at = rng.below(input.len());

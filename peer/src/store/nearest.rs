@@ -43,7 +43,7 @@ impl Store {
     /// Where several stand alike, the first slot counts.
     pub fn nearest(&self, measured: &Measured) -> Result<Profile, Refusal> {
         measured.exists()?;
-        let near = self.0.iter().filter(|profile| measured.fits(profile));
+        let near = self.profiles.iter().filter(|profile| measured.fits(profile));
         near.min_by_key(|profile| (measured.distance(profile), among_equals(profile))).copied().ok_or(NOT_STORED)
     }
 }

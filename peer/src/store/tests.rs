@@ -1,10 +1,20 @@
 //! The store as a map, and a package that loads.
 
+mod tables;
+
 use super::*;
 use crate::line::cases::{other_hertz, some_rate, valid, NO_HERTZ};
 use crate::line::RATE;
 use crate::rng::Rng;
 use crate::sizes::CATEGORIES;
+use crate::table::{BUILT_IN, BUILT_IN_IMAGE};
+
+impl Store {
+    /// A store with these profiles, and the built-in classes.
+    pub fn holding(profiles: &[Profile]) -> Store {
+        Store { profiles: profiles.to_vec(), table: Table::default() }
+    }
+}
 
 fn profile(country: &[u8; 2], serial: u32) -> Profile {
     Profile { country: *country, serial, ..valid(&mut Rng::new(40)) }
@@ -75,7 +85,7 @@ fn a_seventeenth_triple_has_no_room() {
 #[test]
 fn any_byte_but_0_marks_a_slot_and_the_first_of_a_triple_counts() {
     let (first, second) = (profile(b"XA", 3), profile(b"XA", 9));
-    let mut bytes = Store(vec![profile(b"XB", 1), first, second]).image();
+    let mut bytes = Store::holding(&[profile(b"XB", 1), first, second]).image();
     (bytes[0], bytes[IMAGE]) = (0, 0x80);
     let mut store = Store::from_image(&bytes);
     assert_eq!(store.lookup(&Device::of(&first)), Ok(first));
@@ -91,19 +101,19 @@ fn any_byte_but_0_marks_a_slot_and_the_first_of_a_triple_counts() {
 fn a_slot_with_other_hertz_is_another_triple() {
     let p = profile(b"XA", 3);
     for hertz in NO_HERTZ.into_iter().chain([other_hertz(p.hertz)]) {
-        let old = Store(vec![Profile { hertz, serial: 9, ..p }]).image();
+        let old = Store::holding(&[Profile { hertz, serial: 9, ..p }]).image();
         let mut store = Store::from_image(&old);
         assert_eq!(store.lookup(&Device::of(&p)), Err(9), "{hertz}");
         assert_eq!(store.put(p, &Device::of(&p)), Ok(()), "{hertz}");
         assert!(wrote_one_slot(&old, &store.image(), &p), "{hertz}");
-        assert!(!wrote_one_slot(&old, &Store(vec![p]).image(), &p), "{hertz}");
+        assert!(!wrote_one_slot(&old, &Store::holding(&[p]).image(), &p), "{hertz}");
     }
 }
 
 #[test]
 fn one_slot_is_the_triples_or_a_free_one() {
     let (a, b, newer) = (profile(b"XA", 3), profile(b"XB", 9), profile(b"XB", 10));
-    let old = Store(vec![a, b, b]).image();
+    let old = Store::holding(&[a, b, b]).image();
     let with = |slots: &[usize], p: &Profile| {
         let mut new = old.clone();
         for slot in slots {
@@ -151,9 +161,9 @@ fn a_made_package_loads() {
         let [private, master, salt] = [s.key_seed, s.round_seed, s.salt].map(|len| rng.bytes(len));
         let (mut key, mut package) = (vec![0; s.key()], vec![7; s.signature() + 84]);
         let p = Profile { rate: with_rate.then(|| some_rate(&mut rng)), ..valid(&mut rng) };
-        let line = write_line(&p).unwrap();
+        let line = write_line(&BUILT_IN, &p).unwrap();
         assert_eq!(scheme::make_key(&s, &private, &mut key), 0);
-        let (answer, length) = make_package(&s, [&private, &master, &salt], &line, &mut package, 0);
+        let (answer, length) = make_package(&s, &BUILT_IN_IMAGE, [&private, &master, &salt], &line, &mut package, 0);
         assert_eq!((answer, length), (0, s.signature() + line.len()));
         assert!(package[length..].iter().all(|&byte| byte == 7));
         let mut image = vec![0; STORE];
@@ -163,8 +173,8 @@ fn a_made_package_loads() {
         assert_eq!([load(&package[..short]), load(&package[..length]), load(&package[..length])], [1, 0, 7]);
         assert_eq!(lookup(&image, &Device::of(&p), &mut out, 0), (0, line.len()));
         assert_eq!(out[..line.len()], line);
-        assert_eq!(make_package(&s, [&private, &master, &salt[1..]], b"", &mut package, 5), (1, 5));
-        assert_eq!(make_package(&s, [&private, &master, &salt], &[b'x'; 50], &mut package, 5), (5, 5));
+        assert_eq!(make_package(&s, &BUILT_IN_IMAGE, [&private, &master, &salt[1..]], b"", &mut package, 5), (1, 5));
+        assert_eq!(make_package(&s, &BUILT_IN_IMAGE, [&private, &master, &salt], &[b'x'; 50], &mut package, 5), (5, 5));
     }
 }
 
@@ -172,5 +182,5 @@ fn a_made_package_loads() {
 fn packages_and_images_have_the_lengths_of_the_paper() {
     let lengths = CATEGORIES.map(|s| package_lengths(&s).into_inner());
     assert_eq!(lengths, [(19_194, 19_236), (42_724, 42_766), (76_340, 76_382)]);
-    assert_eq!(STORE, 1_216);
+    assert_eq!((SLOTS, STORE), (1_216, 1_532));
 }

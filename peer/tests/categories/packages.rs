@@ -4,6 +4,7 @@ use crate::world::{each_pair, lengths, name, resized, World, LINE};
 use peer::harness::{Lent, Tally};
 use peer::line::{image, read_line, Profile};
 use peer::store::{load, make_package, package_lengths, Device, STORE};
+use peer::table::{BUILT_IN, BUILT_IN_IMAGE};
 
 /// Makes a package in both programs: 1 wherever a size is not the category's own.
 fn make(t: &mut Tally, own: &World, seeds: &[Vec<u8>; 3], room: usize) {
@@ -11,8 +12,10 @@ fn make(t: &mut Tally, own: &World, seeds: &[Vec<u8>; 3], room: usize) {
     let lent = seeds.each_ref().map(|seed| Lent::holding(seed, t.inputs()));
     let sizes = (seeds.each_ref().map(Vec::len), room);
     let old = t.inputs().wrapping_mul(0x9E37_79B9);
-    let proved = |out: &mut [u8]| category.make_package(lent.each_ref().map(Lent::content), LINE, out, old);
-    let plain = |out: &mut [u8]| make_package(&s, seeds.each_ref().map(|seed| &seed[..]), LINE, out, old);
+    let proved =
+        |out: &mut [u8]| category.make_package(&BUILT_IN_IMAGE, lent.each_ref().map(Lent::content), LINE, out, old);
+    let plain =
+        |out: &mut [u8]| make_package(&s, &BUILT_IN_IMAGE, seeds.each_ref().map(|seed| &seed[..]), LINE, out, old);
     let answer = t.both(room, proved, plain, || format!("{sizes:?}"));
     assert!(lent.iter().zip(seeds).all(|(lent, seed)| lent.content() == seed), "the seeds, {sizes:?}");
     assert_eq!(answer, u8::from(sizes != ([s.key_seed, s.round_seed, s.salt], own.room())), "{sizes:?}");
@@ -40,7 +43,7 @@ fn making() {
 /// The image of a store that holds an older profile of the line's triple, and beside it one of another country and one
 /// of the other hertz.
 fn stored() -> Vec<u8> {
-    let profile = read_line(LINE).expect("a line");
+    let profile = read_line(&BUILT_IN, LINE).expect("a line");
     let [older, country] = [Profile { serial: 11, ..profile }, Profile { country: *b"XB", ..profile }];
     resized(&[country, Profile { hertz: 60, ..profile }, older].each_ref().map(image).concat(), STORE)
 }

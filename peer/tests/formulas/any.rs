@@ -7,14 +7,16 @@ use peer::formula::cases::{any as any_formula, failing, missed, noise, ALPHABET}
 use peer::harness::{Tally, LEAST};
 use peer::line::cases::valid;
 use peer::line::{write_line, LONGEST};
+use peer::refusal::ANSWERS;
 use peer::rng::Rng;
+use peer::table::BUILT_IN;
 
 /// A profile line is evaluated to itself.
 #[test]
 fn plain_lines() {
     let (mut t, mut rng) = (Tally::new("evaluate_line, plain lines"), Rng::new(0x706C_6169));
     while t.inputs() < LEAST {
-        let line = write_line(&valid(&mut rng)).expect("valid");
+        let line = write_line(&BUILT_IN, &valid(&mut rng)).expect("valid");
         demand(&mut t, &line, Ok(&line));
     }
     t.finish(LEAST, &[0]);
@@ -35,12 +37,12 @@ fn good_lines() {
 #[test]
 fn any_lines() {
     let (mut t, mut rng) = (Tally::new("evaluate_line"), Rng::new(0x616E_7931));
-    let (mut frames, mut ranges, mut others) = (0, 0, [0; 13]);
+    let (mut frames, mut ranges, mut others) = (0, 0, [0; ANSWERS]);
     while t.inputs() < 2 * LEAST {
         let input = any(&mut rng);
         let room = if rng.below(64) == 0 { [0, 83, 85, 400][rng.below(4)] } else { LONGEST };
         match compare(&mut t, &input, room) {
-            5 if Frame::of(&input).is_err() => frames += 1,
+            5 if Frame::of(&BUILT_IN, &input).is_err() => frames += 1,
             5 => ranges += 1,
             answer => others[usize::from(answer)] += 1,
         }

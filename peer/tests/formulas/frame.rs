@@ -9,6 +9,7 @@ use peer::harness::Tally;
 use peer::line::cases::texts;
 use peer::line::{IMAGE, LONGEST};
 use peer::rng::Rng;
+use peer::table::BUILT_IN_IMAGE;
 
 /// Limits of every kind: good ones, without a formula, with a step that fails, and out of every range.
 const KINDS: [(&str, u8); 6] = [("N+N", 0), ("1+", 11), ("", 11), ("1/0", 12), ("1000000*2001", 12), ("1000000", 5)];
@@ -108,7 +109,7 @@ fn commas() {
 /// Whether the library takes this text as this field of a plain line.
 fn is_taken(line: &str, at: usize, text: &str) -> bool {
     let mut image = [0; IMAGE];
-    archive::read_line(&with_field(line, at, text.as_bytes()), &mut image) == 0
+    archive::read_line(&BUILT_IN_IMAGE, &with_field(line, at, text.as_bytes()), &mut image) == 0
 }
 
 /// Each field that is no limit, at the ends of its range, beside them and in other spellings, while each limit is good

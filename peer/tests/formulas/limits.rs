@@ -5,8 +5,9 @@ use peer::evaluate::cases::{joined, places, with_field, Place, PLAIN};
 use peer::evaluate::LIMITS;
 use peer::formula::cases::{in_pairs, named, of_length, shown_as};
 use peer::harness::Tally;
-use peer::line::{class_of, LONGEST};
+use peer::line::LONGEST;
 use peer::rng::Rng;
+use peer::table::BUILT_IN;
 
 /// Demands what is due of a line with this limit, by what the limit gives.
 fn demand_limit(t: &mut Tally, place: &Place, text: &str, gives: Result<i64, u8>) {
@@ -133,7 +134,7 @@ fn empty_fields() {
 fn every_volts() {
     let mut t = Tally::new("evaluate_line, every volts");
     for volts in 100..=1_000_i64 {
-        let class = char::from(class_of(volts as u32).expect("100 to 1000"));
+        let class = char::from(BUILT_IN.class_of(volts as u32).expect("100 to 1000"));
         let limits = ["1500-N/2", "1+N/2", "N*5", "0-N", "N*N/100"];
         let [a, b, c, d, e] = limits;
         let input = format!("GP2,XA,{class},14,{volts},50,{a},100,{b},1500,{c},100,{d},100,{e},500\n");

@@ -8,16 +8,19 @@ use peer::harness::{Comparison, Tally, LEAST};
 use peer::line::cases::{any_image, by_length, fields, joined, some_rate, texts, valid};
 use peer::line::{image, Profile, LONGEST};
 use peer::rng::Rng;
+use peer::table::{BUILT_IN, BUILT_IN_IMAGE};
 use peer::{archive, entries, line};
 
 const IMAGE: usize = line::IMAGE;
 
 fn reader() -> Comparison {
-    Comparison::new("read_line", archive::read_line, entries::read_line)
+    let proved = |line: &[u8], out: &mut [u8]| archive::read_line(&BUILT_IN_IMAGE, line, out);
+    let plain = |line: &[u8], out: &mut [u8]| entries::read_line(&BUILT_IN_IMAGE, line, out);
+    Comparison::new("read_line", proved, plain)
 }
 
 fn written(profile: &Profile) -> Vec<u8> {
-    line::write_line(profile).expect("valid")
+    line::write_line(&BUILT_IN, profile).expect("valid")
 }
 
 fn line_of(rng: &mut Rng) -> Vec<u8> {
@@ -44,8 +47,8 @@ fn valid_lines() {
         for line in both_kinds(&mut rng).each_ref().map(written) {
             c.demand(&line, IMAGE, 0);
             let (mut image, mut out) = ([0; IMAGE], [0; LONGEST]);
-            assert_eq!(archive::read_line(&line, &mut image), 0);
-            assert_eq!(archive::write_line(&image, &mut out, 0), (0, line.len()));
+            assert_eq!(archive::read_line(&BUILT_IN_IMAGE, &line, &mut image), 0);
+            assert_eq!(archive::write_line(&BUILT_IN_IMAGE, &image, &mut out, 0), (0, line.len()));
             assert_eq!(out[..line.len()], line);
         }
     }
@@ -62,7 +65,11 @@ fn classes_at_their_ends() {
             let line = format!("{tag},XA,{letter},12,{volts},50,1150,100,800,1500,1500,100,-2500,100{end}\n");
             let mut image = [0; IMAGE];
             let wanted = if letter == class { 0 } else { 5 };
-            assert_eq!(archive::read_line(line.as_bytes(), &mut image), wanted, "{tag} {volts} {letter}");
+            assert_eq!(
+                archive::read_line(&BUILT_IN_IMAGE, line.as_bytes(), &mut image),
+                wanted,
+                "{tag} {volts} {letter}"
+            );
             assert_eq!(image[3], if letter == class { letter as u8 } else { 0 }, "{tag} {volts} {letter}");
         }
     }
@@ -174,7 +181,8 @@ fn anything_else() {
 fn write(t: &mut Tally, image: &[u8], room: usize) -> u8 {
     let old = t.inputs().wrapping_mul(0x9E37_79B9);
     let shown = || format!("{image:02x?} into {room} bytes");
-    t.both(room, |out| archive::write_line(image, out, old), |out| entries::write_line(image, out, old), shown)
+    let proved = |out: &mut [u8]| archive::write_line(&BUILT_IN_IMAGE, image, out, old);
+    t.both(room, proved, |out| entries::write_line(&BUILT_IN_IMAGE, image, out, old), shown)
 }
 
 #[test]

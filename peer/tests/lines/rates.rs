@@ -4,6 +4,7 @@ use crate::{reader, write, IMAGE};
 use peer::archive;
 use peer::harness::Tally;
 use peer::line::cases::PRESENCES;
+use peer::table::BUILT_IN_IMAGE;
 
 /// What both worked lines have between tag and rate point.
 const MIDDLE: &str = "XA,B,13,230,50,1150,100,800,1500,1500,100,-2500,100";
@@ -49,7 +50,7 @@ fn read_into_images() {
     for (line, rate) in [(format!("GP1,{MIDDLE}\n"), [0; 12]), (format!("GP2,{MIDDLE},2000,500\n"), present)] {
         for old in [0, 0xA5, 0xFF] {
             let mut image = [old; 76];
-            assert_eq!(archive::read_line(line.as_bytes(), &mut image), 0);
+            assert_eq!(archive::read_line(&BUILT_IN_IMAGE, line.as_bytes(), &mut image), 0);
             assert_eq!(image[..16], head);
             assert_eq!(image[64..], rate);
         }
@@ -61,7 +62,7 @@ fn read_into_images() {
 fn every_presence() {
     let mut t = Tally::new("write_line, rate points");
     let mut bytes = [0; 76];
-    assert_eq!(archive::read_line(format!("GP1,{MIDDLE}\n").as_bytes(), &mut bytes), 0);
+    assert_eq!(archive::read_line(&BUILT_IN_IMAGE, format!("GP1,{MIDDLE}\n").as_bytes(), &mut bytes), 0);
     for presence in PRESENCES {
         for limit in [0, 1, 99, 100, 2_000, 10_000, 10_001, u32::MAX] {
             for delay in [0, 19, 20, 500, 60_000, 60_001, u32::MAX] {
@@ -74,7 +75,7 @@ fn every_presence() {
                 };
                 assert_eq!(write(&mut t, &bytes, 84), if wanted.is_some() { 0 } else { 5 });
                 let mut out = [0; 84];
-                let (answer, length) = archive::write_line(&bytes, &mut out, 0);
+                let (answer, length) = archive::write_line(&BUILT_IN_IMAGE, &bytes, &mut out, 0);
                 assert_eq!((answer == 0).then_some(&out[..length]), wanted.as_deref().map(str::as_bytes));
             }
         }

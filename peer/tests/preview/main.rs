@@ -8,11 +8,17 @@ use peer::harness::Tally;
 use peer::preview::cases::{any, longest_rows, named, BOTH_HERTZ, BOTH_KINDS};
 use peer::preview::{preview, HEADER, LISTING};
 use peer::rng::Rng;
+use peer::table::BUILT_IN_IMAGE;
 
 fn compare(t: &mut Tally, name: &str, input: &[u8], room: usize) -> u8 {
     let old = t.inputs().wrapping_mul(0x9E37_79B9);
     let shown = || format!("{name}: {:?} into {room} bytes", String::from_utf8_lossy(input));
-    t.both(room, |out| archive::preview(input, out, old), |out| preview(input, out, old), shown)
+    t.both(
+        room,
+        |out| archive::preview(&BUILT_IN_IMAGE, input, out, old),
+        |out| preview(&BUILT_IN_IMAGE, input, out, old),
+        shown,
+    )
 }
 
 /// Nothing, the listing's bytes before it had the hertz, and what stands beside the right ones.
@@ -43,7 +49,11 @@ fn the_longest_listing() {
             assert_eq!(compare(&mut t, "longest rows", input.as_bytes(), room), wanted, "{count} into {room}");
         }
         let (mut out, rows) = ([0; LISTING], usize::from(count.min(16)));
-        assert_eq!(archive::preview(input.as_bytes(), &mut out, 0), (0, HEADER.len() + 19 * rows), "{count}");
+        assert_eq!(
+            archive::preview(&BUILT_IN_IMAGE, input.as_bytes(), &mut out, 0),
+            (0, HEADER.len() + 19 * rows),
+            "{count}"
+        );
         assert_eq!(out.iter().filter(|&&byte| byte == b'\n').count(), 1 + rows, "{count}");
         assert_eq!(out[LISTING - 1], if rows == 16 { b'\n' } else { 0 }, "{count}");
     }

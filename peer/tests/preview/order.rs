@@ -9,11 +9,12 @@ use peer::preview::cases::{
 };
 use peer::preview::LISTING;
 use peer::rng::Rng;
+use peer::table::BUILT_IN_IMAGE;
 
 /// What the proved library lists.
 fn listed(input: &str) -> String {
     let mut out = [0; LISTING];
-    let (answer, length) = archive::preview(input.as_bytes(), &mut out, 0);
+    let (answer, length) = archive::preview(&BUILT_IN_IMAGE, input.as_bytes(), &mut out, 0);
     assert_eq!(answer, 0, "{input}");
     String::from_utf8(out[..length].to_vec()).expect("letters and digits")
 }

@@ -3,6 +3,7 @@
 use peer::preview::cases::{any, named, LISTED};
 use peer::preview::listing;
 use peer::rng::Rng;
+use peer::table::BUILT_IN;
 use std::io::{Read, Write};
 use std::process::{ChildStdin, Command, Stdio};
 use std::thread;
@@ -59,7 +60,7 @@ fn programs_agree() {
     let mut inputs = named(&mut rng);
     inputs.extend((0..100).map(|_| ("any", any(&mut rng))));
     for (name, input) in &inputs {
-        assert_eq!(run(input, at_once), listing(input), "{name}");
+        assert_eq!(run(input, at_once), listing(&BUILT_IN, input), "{name}");
     }
     println!("preview program: {} inputs agree", inputs.len());
 }
@@ -68,7 +69,7 @@ fn programs_agree() {
 fn pieces_of_one_byte() {
     let inputs = named(&mut Rng::new(0x736C_6F77));
     for (name, input) in &inputs {
-        assert_eq!(run(input, byte_by_byte), listing(input), "{name}");
+        assert_eq!(run(input, byte_by_byte), listing(&BUILT_IN, input), "{name}");
     }
     println!("preview program, byte by byte: {} inputs agree", inputs.len());
 }

@@ -6,6 +6,7 @@ use peer::harness::Tally;
 use peer::line::{write_line, Profile};
 use peer::rng::Rng;
 use peer::store::Device;
+use peer::table::BUILT_IN;
 
 /// A store, and a signer whose packages are loaded into it.
 pub struct Held {
@@ -38,7 +39,7 @@ impl Held {
 
     /// Loads a profile, for any device.
     pub fn put_on(&mut self, profile: &Profile, device: &Device) -> u8 {
-        self.load(&write_line(profile).expect("valid"), device)
+        self.load(&write_line(&BUILT_IN, profile).expect("valid"), device)
     }
 
     /// Loads a profile on its own device.
@@ -55,7 +56,7 @@ impl Held {
     pub fn demand(&mut self, profile: &Profile) {
         let device = Device::of(profile);
         assert_eq!(self.find(&device), 0, "{device:?}");
-        assert_eq!(self.both.line(&device), write_line(profile).expect("valid"));
+        assert_eq!(self.both.line(&device), write_line(&BUILT_IN, profile).expect("valid"));
     }
 
     /// How many loads and lookups there were at least, and the answers that came.

@@ -1,18 +1,18 @@
 //! Images that no run of the library made: every image means some store.
 
-use crate::both::{devices, Both, Sent, Signer, COUNTRIES, DEVICES};
+use crate::both::{devices, find_all, Both, Sent, Signer, COUNTRIES, DEVICES};
 use peer::archive::{Category, CATEGORIES, CATEGORY_1};
 use peer::harness::Tally;
 use peer::line::cases::{any_image, valid, NO_HERTZ};
 use peer::line::{Profile, HERTZ, IMAGE};
 use peer::rng::Rng;
-use peer::store::{Device, Store, STORE};
+use peer::store::{Device, Store, SLOTS, STORE};
 
 /// Any bytes: in one of eight nothing but noise, else slots that are used by any byte but 0, free
 /// ones that are not blank, profiles that break rules, hertz that no grid has, and triples that stand
-/// in several slots.
+/// in several slots. The table is that of the built-in classes.
 pub fn any_store(rng: &mut Rng) -> Vec<u8> {
-    let (mut bytes, free) = (rng.bytes(STORE), rng.below(8));
+    let (mut bytes, free) = (rng.bytes(SLOTS), rng.below(8));
     for slot in bytes.chunks_exact_mut(IMAGE).filter(|_| free > 0) {
         slot.copy_from_slice(&any_image(rng));
         slot[0] = if rng.below(12) < free { 0 } else { [1, 2, 85, 128, 254, 255][rng.below(6)] };
@@ -26,6 +26,7 @@ pub fn any_store(rng: &mut Rng) -> Vec<u8> {
             slot[HERTZ..HERTZ + 4].copy_from_slice(&NO_HERTZ[rng.below(NO_HERTZ.len())].to_le_bytes());
         }
     }
+    bytes.resize(STORE, 0);
     bytes
 }
 
@@ -50,7 +51,7 @@ fn lookups() {
     let (mut t, mut rng, mut seen) = (Tally::new("lookup, any image"), Rng::new(0x696D_6167), [0; 3]);
     for _ in 0..4_000 {
         let image = any_store(&mut rng);
-        Both::from(&CATEGORY_1, &image).find_all(&mut t);
+        find_all(&Both::from(&CATEGORY_1, &image), &mut t);
         seen.iter_mut().zip(strange(&image)).for_each(|(sum, count)| *sum += count);
     }
     println!("devices that an image has twice, at both hertz, and at other hertz alone: {seen:?}");
@@ -74,7 +75,7 @@ fn loads_at(category: &Category, images: usize) {
         for _ in 0..4 {
             let (profile, package) = &posts[rng.below(posts.len())];
             both.load(&mut loads, Sent { key: &signer.key, package }, &Device::of(profile), &|_, _, _| 0);
-            both.find_all(&mut finds);
+            find_all(&both, &mut finds);
         }
     }
     loads.finish(4 * images, &[0, 7, 8]);

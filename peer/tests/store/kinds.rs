@@ -6,6 +6,7 @@ use peer::line::cases::{by_length, some_rate, valid, PRESENCES};
 use peer::line::{image, write_line, Profile, RATE};
 use peer::rng::Rng;
 use peer::store::{Device, STORE};
+use peer::table::BUILT_IN;
 
 /// A rate point comes, changes and goes: the serial alone decides.
 #[test]
@@ -59,7 +60,7 @@ fn of_every_length() {
         for (at, (with_rate, len)) in (0..).zip(lines) {
             let all = by_length(with_rate);
             let profile = Profile { country: [b'Q', b'A' + at], ..all[len - if with_rate { 49 } else { 42 }] };
-            assert_eq!(write_line(&profile).map(|line| line.len()), Ok(len));
+            assert_eq!(write_line(&BUILT_IN, &profile).map(|line| line.len()), Ok(len));
             assert_eq!(held.put(&profile), 0);
             held.demand(&profile);
         }

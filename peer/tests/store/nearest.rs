@@ -8,10 +8,11 @@ use crate::both::{holding, placed, Both, Sent, Signer};
 use peer::archive::{Category, CATEGORIES, CATEGORY_1};
 use peer::harness::Tally;
 use peer::line::cases::{by_length, other_hertz, valid};
-use peer::line::{class_of, image, read_line, write_line, Profile, IMAGE, NOMINAL_HERTZ};
+use peer::line::{image, read_line, write_line, Profile, IMAGE, NOMINAL_HERTZ};
 use peer::refusal::{BAD_DEVICE, NOT_STORED};
 use peer::rng::Rng;
-use peer::store::{Device, Measured, CAPACITY, STORE};
+use peer::store::{Device, Measured, CAPACITY, SLOTS, STORE};
+use peer::table::BUILT_IN;
 use std::ops::RangeInclusive;
 
 const LINE: &[u8] = b"GP1,XA,B,12,230,50,1150,100,800,1500,1500,100,-2500,100\n";
@@ -26,8 +27,8 @@ fn networks() -> impl Iterator<Item = (&'static [u8], u32)> {
 
 /// The line's profile at these volts and hertz, of the class that the volts have; where they have none it stays B.
 fn at(volts: u32, hertz: u32) -> Profile {
-    let class = class_of(volts).unwrap_or(b'B');
-    Profile { volts, hertz, class, ..read_line(LINE).expect("a line") }
+    let class = BUILT_IN.class_of(volts).unwrap_or(b'B');
+    Profile { volts, hertz, class, ..read_line(&BUILT_IN, LINE).expect("a line") }
 }
 
 fn xa(hertz: u32, volts: u32) -> Measured<'static> {
@@ -43,7 +44,7 @@ fn outward(slots: &[Profile], measured: &Measured) -> Result<Vec<u8>, u8> {
     let around = (0..=40).flat_map(|away| [measured.volts.checked_sub(away), Some(measured.volts + away)]);
     let fits = |slot: &&Profile| slot.country == measured.country && slot.hertz == measured.hertz;
     let of_volts = |volts: u32| slots.iter().filter(fits).find(|slot| slot.volts == volts);
-    around.flatten().find_map(of_volts).ok_or(NOT_STORED).and_then(write_line)
+    around.flatten().find_map(of_volts).ok_or(NOT_STORED).and_then(|profile| write_line(&BUILT_IN, profile))
 }
 
 /// What both find nearest among profiles that loads could have stored: a lookup for its class gives the same line.
@@ -51,7 +52,7 @@ fn found(both: &Both, t: &mut Tally, stored: &[Profile], measured: &Measured) ->
     let near = both.near(t, measured);
     assert_eq!(near, outward(stored, measured), "{measured:?}");
     let line = near.ok()?;
-    let profile = read_line(&line).expect("a line");
+    let profile = read_line(&BUILT_IN, &line).expect("a line");
     assert_eq!(both.line(&Device::of(&profile)), line, "{measured:?}");
     Some(profile)
 }
@@ -73,7 +74,7 @@ fn worked_at(category: &Category) {
         b"GP1,XA,C,5,300,50,1100,200,850,1500,1500,100,-2500,100\n",
         b"GP1,XA,B,1,240,60,1150,100,800,1500,1500,100,-2500,100\n",
     ];
-    let posts = lines.map(|line| (read_line(line).expect("a line"), signer.package(&mut rng, line)));
+    let posts = lines.map(|line| (read_line(&BUILT_IN, line).expect("a line"), signer.package(&mut rng, line)));
     let some = [(50, 237, 0), (50, 265, 0), (50, 266, 1), (50, 190, 0), (50, 340, 1), (60, 230, 2)];
     let none = [(50, 189), (50, 341), (50, 0), (50, 2_000)].map(|(hertz, volts)| (xa(hertz, volts), 9));
     let country = |country| Measured { country, ..xa(50, 230) };
@@ -301,12 +302,13 @@ fn runs() {
 
 /// These profiles in any slots, and noise in the free ones.
 fn scattered(rng: &mut Rng, profiles: &[Profile]) -> Vec<u8> {
-    let (mut bytes, mut free) = (rng.bytes(STORE), (0..CAPACITY).collect::<Vec<usize>>());
+    let (mut bytes, mut free) = (rng.bytes(SLOTS), (0..CAPACITY).collect::<Vec<usize>>());
     bytes.chunks_exact_mut(IMAGE).for_each(|slot| slot[0] = 0);
     for profile in profiles {
         let start = free.swap_remove(rng.below(free.len())) * IMAGE;
         bytes[start..start + IMAGE].copy_from_slice(&image(profile));
     }
+    bytes.resize(STORE, 0);
     bytes
 }
 

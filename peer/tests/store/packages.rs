@@ -8,6 +8,7 @@ use peer::line::{read_line, write_line, Profile};
 use peer::rng::Rng;
 use peer::scheme;
 use peer::store::{make_package, package_lengths, Device};
+use peer::table::{BUILT_IN, BUILT_IN_IMAGE};
 
 type Seeds = [Vec<u8>; 3];
 
@@ -15,8 +16,8 @@ fn compare(category: &Category, t: &mut Tally, seeds: &Seeds, line: &[u8], room:
     let seeds = [&seeds[0][..], &seeds[1], &seeds[2]];
     let old = t.inputs().wrapping_mul(0x9E37_79B9);
     let shown = || format!("{seeds:02x?} {:?} into {room} bytes", String::from_utf8_lossy(line));
-    let proved = |out: &mut [u8]| category.make_package(seeds, line, out, old);
-    t.both(room, proved, |out| make_package(&category.sizes, seeds, line, out, old), shown)
+    let proved = |out: &mut [u8]| category.make_package(&BUILT_IN_IMAGE, seeds, line, out, old);
+    t.both(room, proved, |out| make_package(&category.sizes, &BUILT_IN_IMAGE, seeds, line, out, old), shown)
 }
 
 /// Private seed, master seed, salt.
@@ -41,7 +42,7 @@ fn lines(good: &[Vec<u8>; 2]) -> Vec<(Vec<u8>, u8)> {
 fn sizes_at(category: &Category) {
     let (mut t, mut rng, room) = (category.tally("make_package, sizes"), Rng::new(3), room(category));
     let (whole, profile, rate) = (seeds(category, &mut rng), valid(&mut rng), some_rate(&mut rng));
-    let good = [None, Some(rate)].map(|rate| write_line(&Profile { rate, ..profile }).expect("valid"));
+    let good = [None, Some(rate)].map(|rate| write_line(&BUILT_IN, &Profile { rate, ..profile }).expect("valid"));
     for choice in 0..81usize {
         let how = [choice % 3, choice / 3 % 3, choice / 9 % 3, choice / 27];
         let mut parts = whole.clone();
@@ -77,7 +78,8 @@ fn made(category: &Category, seeds: &Seeds, line: &[u8]) -> (Vec<u8>, Vec<u8>) {
     let (s, mut package) = (category.sizes, vec![0; room(category)]);
     let mut key = vec![0; s.key()];
     assert_eq!(scheme::make_key(&s, &seeds[0], &mut key), 0);
-    let (answer, length) = category.make_package([&seeds[0], &seeds[1], &seeds[2]], line, &mut package, 0);
+    let (answer, length) =
+        category.make_package(&BUILT_IN_IMAGE, [&seeds[0], &seeds[1], &seeds[2]], line, &mut package, 0);
     assert_eq!((answer, length), (0, s.signature() + line.len()));
     package.truncate(length);
     (key, package)
@@ -86,7 +88,7 @@ fn made(category: &Category, seeds: &Seeds, line: &[u8]) -> (Vec<u8>, Vec<u8>) {
 /// Loads what the archive makes of a valid line, and looks it up.
 fn load_made(category: &Category, t: &mut Tally, finds: &mut Tally, seeds: &Seeds, line: &[u8]) {
     let (key, package) = made(category, seeds, line);
-    let (mut both, profile) = (Both::empty(category), read_line(line).expect("valid"));
+    let (mut both, profile) = (Both::empty(category), read_line(&BUILT_IN, line).expect("valid"));
     let (sent, device) = (Sent { key: &key, package: &package }, Device::of(&profile));
     assert_eq!(both.load_clear(t, sent, &device), 0);
     assert_eq!(both.stored(), [profile]);
@@ -99,7 +101,7 @@ fn packages_at(category: &Category, turns: usize) {
         ["make_package", "load, made packages", "lookup, made packages"].map(|what| category.tally(what));
     let mut rng = Rng::new(4);
     for turn in 0..turns {
-        let (parts, mut line) = (seeds(category, &mut rng), write_line(&valid(&mut rng)).expect("valid"));
+        let (parts, mut line) = (seeds(category, &mut rng), write_line(&BUILT_IN, &valid(&mut rng)).expect("valid"));
         if turn % 3 == 2 {
             line[rng.below(50).min(41)] = rng.below(256) as u8;
         }
@@ -144,7 +146,7 @@ fn ends() {
             load_made(category, &mut loads, &mut finds, &parts, line);
             let (key, package) = made(category, &parts, line);
             assert_eq!(package.len(), lengths[at]);
-            let profile = read_line(line).expect("valid");
+            let profile = read_line(&BUILT_IN, line).expect("valid");
             for other in [package[..package.len() - 1].to_vec(), [&package[..], b"\n"].concat()] {
                 let wanted = if (42..=84).contains(&(other.len() - category.sizes.signature())) { 3 } else { 1 };
                 let sent = Sent { key: &key, package: &other };

@@ -10,6 +10,7 @@ use peer::scheme::challenges;
 use peer::scheme::forge::Forger;
 use peer::sizes::Sizes;
 use peer::store::{package_lengths, Device};
+use peer::table::BUILT_IN;
 
 const LINE: &[u8] = b"GP1,XA,B,12,230,50,1150,100,800,1500,1500,100,-2500,100\n";
 /// The same at a frequency that there is not, of another class, with a byte after the line feed, without one; with a
@@ -53,7 +54,7 @@ struct Input {
 
 /// The line's profile, at other countries, classes and serials.
 fn at(country: [u8; 2], class: u8, serial: u32) -> Profile {
-    Profile { country, class, serial, ..read_line(LINE).expect("a line") }
+    Profile { country, class, serial, ..read_line(&BUILT_IN, LINE).expect("a line") }
 }
 
 /// The line's profile with the greatest serial, at these hertz.
@@ -118,9 +119,9 @@ const FAULTS: [Fault; 60] = [
     (10, "hertz", |i| i.hertz = 50 + 65_536),
     (10, "hertz", |i| i.hertz = 60 + (1 << 24)),
     (10, "hertz", |i| i.hertz = u32::MAX),
-    (1, "image", |i| i.image.truncate(1_023)),
     (1, "image", |i| i.image.truncate(1_024)),
-    (1, "image", |i| i.image.truncate(1_215)),
+    (1, "image", |i| i.image.truncate(1_216)),
+    (1, "image", |i| i.image.truncate(1_531)),
     (1, "image", |i| i.image.push(0)),
     (1, "image", |i| i.image.clear()),
     (1, "key size", |i| i.key.truncate(i.sizes.key() - 1)),
@@ -247,7 +248,7 @@ fn lookups() {
     let [broken, near] = [Profile { volts: 260, ..good }, newest_at(50 + 65_536)];
     let stored = [vec![good], vec![Profile { serial: 0, ..good }], vec![broken], vec![near, good], vec![near], vec![]]
         .map(|profiles| holding(&profiles));
-    let sizes = [0, 76, 1_140, 1_023, 1_024, 1_215, 1_217, 2_432].map(|len| vec![0; len]);
+    let sizes = [0, 76, 316, 1_024, 1_216, 1_531, 1_533, 3_064].map(|len| vec![0; len]);
     let held = rates.iter().chain(&stored).zip([0, 5, 0, 5, 5, 0, 9, 9]);
     let images = held.chain(sizes.iter().zip([1; 8]));
     for (image, of_image) in images {
@@ -271,7 +272,7 @@ fn worked_at(category: &Category) {
         let package = signer.package_of(&mut rng, profile);
         both.load_clear(&mut t, Sent { key: &signer.key, package: &package }, &Device::of(profile))
     };
-    let twelve = read_line(LINE).expect("a line");
+    let twelve = read_line(&BUILT_IN, LINE).expect("a line");
     let thirteen = Profile { serial: 13, ..twelve };
     let other_class = Profile { class: b'C', volts: 400, serial: 5, ..twelve };
     let other_hertz = Profile { hertz: 60, serial: 1, ..twelve };

@@ -1,14 +1,15 @@
 //! Runs of random calls on one store.
 
-use crate::both::{devices, Both, Sent, Signer, COUNTRIES, DEVICES};
+use crate::both::{devices, find_all, Both, Sent, Signer, COUNTRIES, DEVICES};
 use peer::archive::{Category, CATEGORIES};
 use peer::harness::Tally;
 use peer::line::cases::{other_hertz, valid, NO_HERTZ};
-use peer::line::{class_of, image, Profile, IMAGE, LONGEST};
+use peer::line::{image, Profile, IMAGE, LONGEST};
 use peer::rng::Rng;
 use peer::scheme;
 use peer::sizes::Sizes;
-use peer::store::{package_lengths, Device, STORE};
+use peer::store::{package_lengths, Device, SLOTS, STORE};
+use peer::table::BUILT_IN;
 
 /// A package with the profile that was signed, and what the clear checker says of it under the key.
 struct Post {
@@ -63,18 +64,19 @@ fn no_device<'a>(rng: &mut Rng, device: Device<'a>) -> Device<'a> {
 
 /// An image with some triples in some slots and noise in the free ones.
 fn scattered(rng: &mut Rng) -> Vec<u8> {
-    let (mut bytes, mut triples) = (rng.bytes(STORE), devices().collect::<Vec<_>>());
+    let (mut bytes, mut triples) = (rng.bytes(SLOTS), devices().collect::<Vec<_>>());
     let fullness = 1 + rng.below(8);
     for slot in bytes.chunks_exact_mut(IMAGE) {
         slot[0] = 0;
         if rng.below(8) < fullness {
             let Device { country, class, hertz } = triples.swap_remove(rng.below(triples.len()));
             let volts = [100, 259, 300, 1_000][class as usize - 65];
-            let class = class_of(volts).expect("100 to 1000");
+            let class = BUILT_IN.class_of(volts).expect("100 to 1000");
             let country = country.try_into().expect("two letters");
             slot.copy_from_slice(&image(&Profile { country, class, volts, hertz, ..some_profile(rng) }));
         }
     }
+    bytes.resize(STORE, 0);
     bytes
 }
 
@@ -134,7 +136,7 @@ fn runs_at(category: &Category, runs: usize, posts: usize) {
             } else {
                 run.lookup(&mut lookups);
             }
-            run.both.find_all(&mut finds);
+            find_all(&run.both, &mut finds);
         }
     }
     loads.finish(40 * runs, &[0, 1, 3, 4, 5, 6, 7, 8, 10]);

@@ -16,6 +16,7 @@ use peer::openssl::{self, Shake};
 use peer::preview::cases::USUAL;
 use peer::rng::Rng;
 use peer::sizes::{Sizes, CATEGORY_1, CATEGORY_3, CATEGORY_5};
+use peer::table::{BUILT_IN, BUILT_IN_IMAGE};
 use std::ffi::CStr;
 use std::hint::black_box;
 
@@ -181,18 +182,22 @@ pub fn packing(rng: &mut Rng, stacks: &Stacks) {
     packing_of(rng, stacks, 7, s.packed_exponents(), pack, unpack);
 }
 
-const READ: Pair = ("read_line", archive::read_line, entries::read_line);
+const READ: Pair = (
+    "read_line",
+    |line, image| archive::read_line(&BUILT_IN_IMAGE, line, image),
+    |line, image| entries::read_line(&BUILT_IN_IMAGE, line, image),
+);
 const WRITE: Pair = (
     "write_line",
-    |image, line| archive::write_line(image, line, 0).0,
-    |image, line| entries::write_line(image, line, 0).0,
+    |image, line| archive::write_line(&BUILT_IN_IMAGE, image, line, 0).0,
+    |image, line| entries::write_line(&BUILT_IN_IMAGE, image, line, 0).0,
 );
 
-/// The usual line of each kind, read and written, for many countries.
+/// The usual line of each kind, read and written under the built-in classes, for many countries.
 pub fn lines(stacks: &Stacks) {
-    let usual = read_line(USUAL.as_bytes()).expect("a line");
+    let usual = read_line(&BUILT_IN, USUAL.as_bytes()).expect("a line");
     let country = |at: usize| [b'A' + (at / 26) as u8, b'A' + (at % 26) as u8];
-    let (line, image) = (|p: &Profile| write_line(p).expect("valid"), |p: &Profile| image(p).to_vec());
+    let (line, image) = (|p: &Profile| write_line(&BUILT_IN, p).expect("valid"), |p: &Profile| image(p).to_vec());
     let entries = [(line as fn(&Profile) -> Vec<u8>, IMAGE, READ), (image, LONGEST, WRITE)];
     for (input, out_len, (entry, proved, plain)) in entries {
         for (kind, rate) in [("GP1", None), ("GP2", Some(Rate { limit: 2_000, delay: 500 }))] {
@@ -206,8 +211,8 @@ pub fn lines(stacks: &Stacks) {
 
 /// The worked line of each kind evaluated, at many volts.
 pub fn formulas(stacks: &Stacks) {
-    let plain = |input: &[u8], line: &mut [u8]| evaluate_line(input, line, 0).0;
-    let proved = |input: &[u8], line: &mut [u8]| archive::evaluate_line(input, line, 0).0;
+    let plain = |input: &[u8], line: &mut [u8]| evaluate_line(&BUILT_IN_IMAGE, input, line, 0).0;
+    let proved = |input: &[u8], line: &mut [u8]| archive::evaluate_line(&BUILT_IN_IMAGE, input, line, 0).0;
     for (kind, (_, line, _)) in ["GP1", "GP2"].into_iter().zip(LISTED) {
         let at_volts = |at: usize| line.replace(",230,", &format!(",{},", 229 - at)).into_bytes();
         let inputs: Vec<Vec<u8>> = (0..INPUTS).map(at_volts).collect();

@@ -5,10 +5,11 @@ use crate::scheme::{row, Signed, INPUTS, LINE, SIGN, VERIFY};
 use crate::stacks::Stacks;
 use crate::table::{print, Row};
 use peer::archive::{self, Category};
-use peer::line::{class_of, image, read_line, Profile, LONGEST};
+use peer::line::{image, read_line, Profile, LONGEST};
 use peer::preview::cases::USUAL;
 use peer::rng::Rng;
 use peer::store::{self, Device, Measured, CAPACITY, STORE};
+use peer::table::{BUILT_IN, BUILT_IN_IMAGE};
 use std::array::from_fn;
 use std::hint::black_box;
 
@@ -26,12 +27,12 @@ fn longest(category: &Category) -> usize {
 type Make = fn(&Signed, &mut [u8]) -> (u8, usize);
 
 fn make_by_library(at: &Signed, package: &mut [u8]) -> (u8, usize) {
-    at.category.make_package(at.seeds.each_ref().map(|seed| &seed[..]), &at.message, package, 0)
+    at.category.make_package(&BUILT_IN_IMAGE, at.seeds.each_ref().map(|seed| &seed[..]), &at.message, package, 0)
 }
 
 fn make_by_plain(at: &Signed, package: &mut [u8]) -> (u8, usize) {
     let seeds = at.seeds.each_ref().map(|seed| &seed[..]);
-    store::make_package_by(at.sizes(), seeds, &at.message, package, 0, &at.category.plain.sign)
+    store::make_package_by(at.sizes(), &BUILT_IN_IMAGE, seeds, &at.message, package, 0, &at.category.plain.sign)
 }
 
 impl Packaged {
@@ -85,13 +86,20 @@ fn finding(
 }
 
 fn usual() -> Profile {
-    read_line(USUAL.as_bytes()).expect("a line")
+    read_line(&BUILT_IN, USUAL.as_bytes()).expect("a line")
+}
+
+/// The image of a store that holds these profiles under the built-in classes.
+fn holding(stored: &[Profile; CAPACITY]) -> Vec<u8> {
+    let mut bytes: Vec<u8> = stored.iter().flat_map(image).collect();
+    bytes.extend(BUILT_IN_IMAGE);
+    bytes
 }
 
 /// One profile of each of 16 countries.
 pub fn lookup(stacks: &Stacks) {
     let stored: [Profile; CAPACITY] = from_fn(|at| Profile { country: [b'X', b'A' + at as u8], ..usual() });
-    let image: Vec<u8> = stored.iter().flat_map(image).collect();
+    let image = holding(&stored);
     let library = |at: usize, line: &mut [u8]| archive::lookup(&image, &Device::of(&stored[at]), line, 0);
     let plain = |at: usize, line: &mut [u8]| store::lookup(&image, &Device::of(&stored[at]), line, 0);
     finding("lookup", stacks, library, plain);
@@ -99,11 +107,11 @@ pub fn lookup(stacks: &Stacks) {
 
 /// Four countries, each with a profile of every class, and measured volts that are 7 above those of each.
 pub fn nearest(stacks: &Stacks) {
-    let of_class = |volts: u32| Profile { volts, class: class_of(volts).expect("100 to 1000"), ..usual() };
+    let of_class = |volts: u32| Profile { volts, class: BUILT_IN.class_of(volts).expect("100 to 1000"), ..usual() };
     let classes = [110, 230, 400, 690].map(of_class);
     let stored: [Profile; CAPACITY] =
         from_fn(|at| Profile { country: [b'X', b'A' + (at / 4) as u8], ..classes[at % 4] });
-    let image: Vec<u8> = stored.iter().flat_map(image).collect();
+    let image = holding(&stored);
     let measured = |at: usize| {
         let Profile { country, hertz, volts, .. } = &stored[at];
         Measured { country, hertz: *hertz, volts: volts + 7 }

@@ -2,7 +2,7 @@
 
 use crate::run::Job;
 use crate::turn::Turn;
-use crate::{lines, scheme, small, store};
+use crate::{lines, scheme, small, store, tables};
 use peer::archive::CATEGORIES;
 
 struct Entry {
@@ -16,7 +16,7 @@ struct Entry {
 /// Keys and signatures of the greater categories are dearer, and so they have fewer inputs: enough for every
 /// answer to come in the short run.
 #[rustfmt::skip]
-static ENTRIES: [Entry; 23] = [
+static ENTRIES: [Entry; 25] = [
     Entry { name: "shake128", inputs: &[1_000_000], answers: &[0], one: small::shake128 },
     Entry { name: "shake256", inputs: &[1_000_000], answers: &[0], one: small::shake256 },
     Entry { name: "pack_values", inputs: &[1_000_000], answers: &[0, 1, 3], one: small::pack_values },
@@ -48,6 +48,7 @@ static ENTRIES: [Entry; 23] = [
     Entry {
         name: "verify_round", inputs: &[400_000, 80_000, 80_000], answers: &[0, 1, 3, 4], one: scheme::verify_round,
     },
+    Entry { name: "read_table", inputs: &[1_000_000], answers: &[0, 1, 13], one: tables::read_table },
     Entry { name: "read_line", inputs: &[2_000_000], answers: &[0, 1, 5], one: lines::read_line },
     Entry { name: "write_line", inputs: &[2_000_000], answers: &[0, 1, 5], one: lines::write_line },
     Entry { name: "evaluate_line", inputs: &[2_000_000], answers: &[0, 1, 5, 11, 12], one: lines::evaluate_line },
@@ -58,6 +59,7 @@ static ENTRIES: [Entry; 23] = [
     Entry {
         name: "load", inputs: &[400_000, 120_000, 100_000], answers: &[0, 1, 3, 4, 5, 6, 7, 8, 10], one: store::load,
     },
+    Entry { name: "load_table", inputs: &[1_000_000], answers: &[0, 1, 13, 14], one: tables::load_table },
     Entry { name: "lookup", inputs: &[1_000_000], answers: &[0, 1, 5, 9, 10], one: store::lookup },
     Entry { name: "nearest", inputs: &[1_000_000], answers: &[0, 1, 5, 9, 10], one: store::nearest },
 ];

@@ -1,18 +1,26 @@
 //! Inputs for lines read, written and evaluated, and for the preview.
 
+use crate::lent::shown;
+use crate::tables;
 use crate::turn::{damaged, number, resized, size, Turn};
 use peer::archive::c;
 use peer::entries;
-use peer::evaluate::cases::any as any_formulas;
+use peer::evaluate::cases::any_of;
 use peer::evaluate::{evaluate_line as plain_evaluate_line, LONGEST_INPUT};
 use peer::line::cases::{any_image, by_length, fields, joined, some_rate, texts, valid};
-use peer::line::{image as image_of, write_line as written, Profile, IMAGE, LONGEST, RATE, SHORTEST};
-use peer::preview::cases::any;
+use peer::line::{image as image_of, Profile, IMAGE, LONGEST, RATE, SHORTEST};
+use peer::preview::cases::{any, any_under};
 use peer::preview::{preview as plain_preview, LISTING};
 use peer::rng::Rng;
+use peer::table::cases::some_profile;
+use peer::table::{Table, BUILT_IN};
 
-/// A valid profile. One of eight is chosen by the length of its line: the shortest of its kind, the longest, or any.
-pub fn profile(rng: &mut Rng) -> Profile {
+/// A profile, under the built-in classes a valid one, and else mostly. One of eight valid ones is chosen by the length of
+/// its line: the shortest of its kind, the longest, or any.
+pub fn profile(rng: &mut Rng, table: &Table) -> Profile {
+    if *table != BUILT_IN {
+        return some_profile(rng, table);
+    }
     if rng.below(8) > 0 {
         return valid(rng);
     }
@@ -65,10 +73,11 @@ fn edited(rng: &mut Rng, mut line: Vec<u8>) -> Vec<u8> {
     line
 }
 
-/// Any line of either kind: valid, at a boundary, between the kinds, edited, damaged, of another length, or noise.
-pub fn line(rng: &mut Rng) -> Vec<u8> {
-    let profile = profile(rng);
-    let line = written(&profile).expect("valid");
+/// Any line of either kind: mostly valid under the table, at a boundary, between the kinds, edited, damaged, of another
+/// length, or noise.
+pub fn line(rng: &mut Rng, table: &Table) -> Vec<u8> {
+    let profile = profile(rng, table);
+    let line = joined(&fields(&profile));
     match rng.below(12) {
         0..=2 => line,
         3 | 4 => at_a_boundary(rng, fields(&profile)),
@@ -88,13 +97,29 @@ pub fn line(rng: &mut Rng) -> Vec<u8> {
 }
 
 pub fn read_line(t: &mut Turn) -> u8 {
-    let (line, room) = (line(&mut t.rng), size(&mut t.rng, IMAGE, 15));
-    t.pair(c::gridprofile_read_line, entries::read_line, &line, room)
+    let (table, lent) = tables::lent(&mut t.rng);
+    let (line, room) = (line(&mut t.rng, &table), size(&mut t.rng, IMAGE, 15));
+    compare_read_line(t, &lent, &line, room)
+}
+
+fn compare_read_line(t: &mut Turn, table: &[u8], line: &[u8], room: usize) -> u8 {
+    let mut expected = t.rng.bytes(room);
+    let (lent, mut out) = (t.lend_all([table, line]), t.lend(&expected));
+    let [(a, b), (c, d)] = lent.each_ref().map(|l| (l.pointer(), l.len()));
+    // SAFETY: the buffers are alive for the call and do not overlap.
+    let answer = unsafe { c::gridprofile_read_line(a, b, c, d, out.pointer_mut(), out.len()) };
+    let due = entries::read_line(table, line, &mut expected);
+    assert_eq!(answer, due, "answer on {} into {room} bytes, table {}", shown(line), shown(table));
+    lent.iter().for_each(|l| l.demand_unchanged());
+    out.demand(&expected);
+    answer
 }
 
 /// Any image. In one of four any number stands for the presence of the rate point; one of eight has none, over noise.
-pub fn image(rng: &mut Rng) -> [u8; IMAGE] {
-    let mut image = if rng.below(8) == 0 { image_of(&profile(rng)) } else { any_image(rng) };
+/// Class and volts are mostly the table's.
+pub fn image(rng: &mut Rng, table: &Table) -> [u8; IMAGE] {
+    let of_profile = *table != BUILT_IN && rng.below(4) > 0 || rng.below(8) == 0;
+    let mut image = if of_profile { image_of(&profile(rng, table)) } else { any_image(rng) };
     let (presence, rest) = image[RATE..].split_at_mut(4);
     match rng.below(8) {
         0 | 1 => presence.copy_from_slice(&number(rng).to_le_bytes()),
@@ -108,15 +133,18 @@ pub fn image(rng: &mut Rng) -> [u8; IMAGE] {
 }
 
 pub fn write_line(t: &mut Turn) -> u8 {
-    let image = image(&mut t.rng);
+    let (table, lent) = tables::lent(&mut t.rng);
+    let image = image(&mut t.rng, &table);
     let (image, room) = (resized(&mut t.rng, &image, 15), size(&mut t.rng, LONGEST, 15));
-    t.length(c::gridprofile_write_line, entries::write_line, &image, room)
+    t.length(c::gridprofile_write_line, entries::write_line, &lent, &image, room)
 }
 
 /// Mostly lines with formulas, good and just not. One of eight is any other line; one of 16 of these inputs is damaged,
 /// and one of another length.
 pub fn evaluate_line(t: &mut Turn) -> u8 {
-    let mut input = if t.one_in(8) { line(&mut t.rng) } else { any_formulas(&mut t.rng) };
+    let (table, lent) = tables::lent(&mut t.rng);
+    let profile = if table == BUILT_IN { valid(&mut t.rng) } else { some_profile(&mut t.rng, &table) };
+    let mut input = if t.one_in(8) { line(&mut t.rng, &table) } else { any_of(&mut t.rng, &profile) };
     match t.rng.below(32) {
         0 | 1 => input = damaged(&mut t.rng, &input),
         2 => input = resized(&mut t.rng, &input, 0),
@@ -127,20 +155,21 @@ pub fn evaluate_line(t: &mut Turn) -> u8 {
         _ => (),
     }
     let room = size(&mut t.rng, LONGEST, 15);
-    t.length(c::gridprofile_evaluate_line, plain_evaluate_line, &input, room)
+    t.length(c::gridprofile_evaluate_line, plain_evaluate_line, &lent, &input, room)
 }
 
 /// One of two is refused for its room; one of 1,000 is about as long as an input may be. One of four begins with any
 /// line.
 pub fn preview(t: &mut Turn) -> u8 {
-    let mut input = any(&mut t.rng);
+    let (table, lent) = tables::lent(&mut t.rng);
+    let mut input = if table == BUILT_IN { any(&mut t.rng) } else { any_under(&mut t.rng, &table) };
     if t.one_in(4) {
-        input.splice(..0, line(&mut t.rng));
+        input.splice(..0, line(&mut t.rng, &table));
     }
     if t.one_in(1_000) {
         let len = 65_534 + t.rng.below(5);
         input = input.iter().chain(b"\n").copied().cycle().take(len).collect();
     }
     let room = size(&mut t.rng, LISTING, 8);
-    t.length(c::gridprofile_preview, plain_preview, &input, room)
+    t.length(c::gridprofile_preview, plain_preview, &lent, &input, room)
 }

@@ -19,6 +19,7 @@ mod run;
 mod scheme;
 mod small;
 mod store;
+mod tables;
 mod turn;
 mod world;
 

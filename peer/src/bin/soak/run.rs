@@ -53,6 +53,8 @@ const MEANINGS: [&str; ANSWERS] = [
     "10 device",
     "11 limit",
     "12 step",
+    "13 table",
+    "14 in use",
 ];
 
 fn line(name: &str, inputs: &str, cells: [String; ANSWERS], seconds: &str) -> String {

@@ -2,50 +2,66 @@
 
 use crate::lent::shown;
 use crate::lines::{self, line};
+use crate::tables;
 use crate::turn::{damaged, number, resized, size, Turn};
 use crate::world::Package;
 use peer::archive::c;
-use peer::line::cases::{other_hertz, some_rate, valid, NO_HERTZ};
-use peer::line::{class_of, image, meaning, read_line, write_line, Profile, HERTZ, IMAGE, LONGEST, SHORTEST, VOLTS};
+use peer::line::cases::{other_hertz, some_rate, valid_under, NO_HERTZ};
+use peer::line::{image, meaning, read_line, write_line, Profile, HERTZ, IMAGE, LONGEST, SHORTEST, VOLTS};
 use peer::rng::Rng;
 use peer::sizes::Sizes;
-use peer::store::{self, package_lengths, Device, Measured, Store, CAPACITY, MEASURED_MAX, REACH};
+use peer::store::{self, package_lengths, table_of, Device, Measured, Store, CAPACITY, MEASURED_MAX, REACH, SLOTS};
+use peer::table::cases::{some_profile, sound};
+use peer::table::{Table, BUILT_IN, TABLE};
 use std::fmt::Debug;
 
 fn longest_package(s: &Sizes) -> usize {
     *package_lengths(s).end()
 }
 
+/// A valid line, and the image of the table that it is valid under.
+fn line_and_table(rng: &mut Rng) -> (Vec<u8>, Vec<u8>) {
+    let table = if rng.below(2) == 0 { BUILT_IN.clone() } else { sound(rng) };
+    let profile = if table == BUILT_IN { lines::profile(rng, &table) } else { valid_under(rng, &table) };
+    (write_line(&table, &profile).expect("valid"), table.image().to_vec())
+}
+
 /// One of 50 has the right sizes and a valid line, and of the others few.
 pub fn make_package(t: &mut Turn) -> u8 {
     let whole = t.one_in(50);
     let seeds = t.seeds(if whole { 16 } else { 8 });
-    let line = if whole { write_line(&lines::profile(&mut t.rng)).expect("valid") } else { line(&mut t.rng) };
+    let (line, table) = if whole {
+        line_and_table(&mut t.rng)
+    } else {
+        let (table, lent) = tables::lent(&mut t.rng);
+        (line(&mut t.rng, &table), lent)
+    };
     let room = t.size_of(longest_package, if whole { 16 } else { 12 });
-    compare_make_package(t, &seeds, &line, room)
+    compare_make_package(t, &table, &seeds, &line, room)
 }
 
-fn compare_make_package(t: &mut Turn, seeds: &[Vec<u8>; 3], line: &[u8], room: usize) -> u8 {
+fn compare_make_package(t: &mut Turn, table: &[u8], seeds: &[Vec<u8>; 3], line: &[u8], room: usize) -> u8 {
     let (seeds, category) = (seeds.each_ref().map(|seed| &seed[..]), t.world.category);
     let mut expected = t.rng.bytes(room);
-    let lent = t.lend_all([seeds[0], seeds[1], seeds[2], line]);
+    let inputs = [table, seeds[0], seeds[1], seeds[2], line];
+    let lent = t.lend_all(inputs);
     let (mut out, mut length) = (t.lend(&expected), t.lend_length());
-    let [(a, b), (c, d), (e, f), (g, h)] = lent.each_ref().map(|l| (l.pointer(), l.len()));
-    let (i, j) = (out.pointer_mut(), out.len());
+    let [(a, b), (c, d), (e, f), (g, h), (i, j)] = lent.each_ref().map(|l| (l.pointer(), l.len()));
+    let (k, l) = (out.pointer_mut(), out.len());
     // SAFETY: the buffers are alive for the call and do not overlap.
-    let answer = unsafe { (category.functions.make_package)(a, b, c, d, e, f, g, h, i, j, length.pointer_mut()) };
+    let answer = unsafe { (category.functions.make_package)(a, b, c, d, e, f, g, h, i, j, k, l, length.pointer_mut()) };
     let (s, sign) = (&category.sizes, &category.plain.sign);
-    let due = store::make_package_by(s, seeds, line, &mut expected, length.held, sign);
-    let inputs = || [seeds[0], seeds[1], seeds[2], line].map(shown).join(", ");
+    let due = store::make_package_by(s, table, seeds, line, &mut expected, length.held, sign);
+    let inputs = || inputs.map(shown).join(", ");
     assert_eq!((answer, length.value()), due, "answer and length on {} into {room} bytes", inputs());
     lent.iter().for_each(|l| l.demand_unchanged());
     out.demand(&expected);
     answer
 }
 
-/// A used slot of a triple that no package has: a valid profile, or what no load stores.
-fn slot(rng: &mut Rng, at: usize) -> [u8; IMAGE] {
-    let mut slot = if rng.below(8) == 0 { lines::image(rng) } else { image(&valid(rng)) };
+/// A used slot of a triple that no package has: mostly a profile that is valid under the table, or what no load stores.
+fn slot(rng: &mut Rng, at: usize, table: &Table) -> [u8; IMAGE] {
+    let mut slot = if rng.below(8) == 0 { lines::image(rng, table) } else { image(&some_profile(rng, table)) };
     slot[0] = [1, 1, 1, 0xFF][rng.below(4)];
     slot[1..3].copy_from_slice(&[b'A' + at as u8, b'q']);
     if rng.below(8) > 0 {
@@ -67,24 +83,34 @@ fn slot_beside(rng: &mut Rng, profile: &Profile) -> [u8; IMAGE] {
     image(&Profile { hertz, serial: number(rng), ..*profile })
 }
 
-/// A store's image: slots used or free, in any order, no triple in two of them. Mostly one is for the triple of
-/// `profile`, and often one for its country and class at other hertz.
-fn store_image(rng: &mut Rng, profile: &Profile) -> Vec<u8> {
+/// The table of a store for a package: mostly the one that it was made under.
+fn store_table(rng: &mut Rng, table: &Table) -> [u8; TABLE] {
+    match rng.below(8) {
+        0 => tables::image(rng),
+        _ => table.image(),
+    }
+}
+
+/// A store's image: slots used or free, in any order, no triple in two of them. Mostly one is for the package's triple,
+/// and often one for its country and class at other hertz.
+pub fn store_image(rng: &mut Rng, package: &Package) -> Vec<u8> {
     let (filled, own, beside) = (rng.below(3) * 8, rng.below(CAPACITY * 3 / 2), rng.below(CAPACITY * 2));
-    let mut bytes = Vec::new();
+    let (profile, lent) = (&package.profile, store_table(rng, &package.table));
+    let (table, mut bytes) = (Table::from_image(&lent), Vec::new());
     for at in 0..CAPACITY {
         if at == own {
             bytes.extend(own_slot(rng, profile));
         } else if at == beside {
             bytes.extend(slot_beside(rng, profile));
         } else if filled == CAPACITY || rng.below(CAPACITY) < filled {
-            bytes.extend(slot(rng, at));
+            bytes.extend(slot(rng, at, &table));
         } else {
             let mut free = rng.bytes(IMAGE);
             free[0] = 0;
             bytes.extend(if rng.below(2) == 0 { vec![0; IMAGE] } else { free });
         }
     }
+    bytes.extend(lent);
     bytes
 }
 
@@ -111,7 +137,7 @@ impl Setting {
         match rng.below(7) {
             0 => *country = resized(rng, country, 0),
             1 => *country = [&b"xA"[..], b"X[", b"@A", b"\0\0", b"A\xC3"][rng.below(5)].to_vec(),
-            2 => *class = [0, 64, 69, 97, *class + 256, *class + 65_536][rng.below(6)],
+            2 => *class = [0, 64, 69, 97, class.wrapping_add(256), class.wrapping_add(65_536)][rng.below(6)],
             3 => *class = number(rng),
             4 => *hertz = NO_HERTZ[rng.below(NO_HERTZ.len())],
             5 => *hertz = number(rng),
@@ -155,17 +181,19 @@ impl Loading {
         }
     }
 
-    /// Package or key damaged, or the device set to another country or class or to the other hertz; almost half of
-    /// them are left.
+    /// Package or key damaged, the device set to another country or class or to the other hertz, or another table in the
+    /// store; almost half of them are left.
     fn spoilt(&mut self, t: &mut Turn) {
         let (line, rng) = (t.sizes().signature(), &mut t.rng);
-        match rng.below(16) {
+        let table = table_of(&self.image);
+        match rng.below(17) {
             0..=3 => self.package = damaged(rng, &self.package),
             4 => self.package[line..][rng.below(SHORTEST)] ^= 1 << rng.below(8),
             5 => self.key = damaged(rng, &self.key),
-            6 => self.setting.class = 65 + rng.below(4) as u32,
+            6 => self.setting.class = table.rows()[rng.below(table.rows().len())].letter,
             7 => self.setting.country[rng.below(2)] = b'A' + rng.below(26) as u8,
             8 => self.setting.hertz = other_hertz(self.setting.hertz),
+            9 => self.image[SLOTS..].copy_from_slice(&tables::image(rng)),
             _ => (),
         }
     }
@@ -173,12 +201,12 @@ impl Loading {
 
 /// One of eight is verified.
 pub fn load(t: &mut Turn) -> u8 {
-    let Package { profile, bytes } = t.pick(&t.world.packages);
+    let package = t.pick(&t.world.packages);
     let mut input = Loading {
-        image: store_image(&mut t.rng, profile),
+        image: store_image(&mut t.rng, package),
         key: t.world.key.clone(),
-        package: bytes.clone(),
-        setting: Setting::of(profile),
+        package: package.bytes.clone(),
+        setting: Setting::of(&package.profile),
     };
     if t.one_in(8) {
         input.spoilt(t);
@@ -204,7 +232,8 @@ fn compare_load(t: &mut Turn, input: &Loading) -> u8 {
     if answer == 0 {
         let [own, other] = [store.content(), &expected].map(|image| Store::from_image(image).sorted());
         assert_eq!(own, other, "the store after a package for {device:?}");
-        let profile = read_line(&package[s.signature()..]).expect("a line that was loaded");
+        let line = &package[s.signature()..];
+        let profile = read_line(&table_of(image), line).expect("a line that was loaded");
         assert!(store::wrote_one_slot(image, store.content(), &profile), "slots after a package for {device:?}");
     } else {
         store.demand_unchanged();
@@ -214,14 +243,15 @@ fn compare_load(t: &mut Turn, input: &Loading) -> u8 {
 
 /// Any store, asked for one of its triples, for another one, or for none that there is.
 pub fn lookup(t: &mut Turn) -> u8 {
-    let profile = t.pick(&t.world.packages).profile;
-    let image = store_image(&mut t.rng, &profile);
+    let package = t.pick(&t.world.packages);
+    let (profile, image) = (package.profile, store_image(&mut t.rng, package));
     let at = t.rng.below(CAPACITY) * IMAGE;
     let mut setting = Setting::of(&meaning(image[at..at + IMAGE].try_into().expect("a slot")));
     match t.rng.below(8) {
         0..=2 => setting = Setting::of(&profile),
         3 => setting = Setting { hertz: other_hertz(profile.hertz), ..Setting::of(&profile) },
         4 => setting.lose(&mut t.rng),
+        5 => setting.class = t.pick(table_of(&image).rows()).letter,
         _ => (),
     }
     let (image, room) = (resized(&mut t.rng, &image, 15), size(&mut t.rng, LONGEST, 15));
@@ -276,14 +306,14 @@ fn volts_about(rng: &mut Rng, volts: u32) -> u32 {
 /// Brings slots to the country and hertz of `profile` and to volts about its own, used ones and free ones. The class
 /// mostly follows.
 fn crowd(rng: &mut Rng, image: &mut [u8], profile: &Profile) {
-    let few = 1 + rng.below(6);
-    for slot in image.chunks_exact_mut(IMAGE) {
+    let (few, table) = (1 + rng.below(6), table_of(image));
+    for slot in image[..SLOTS].chunks_exact_mut(IMAGE) {
         if rng.below(few) == 0 {
             let volts = volts_about(rng, profile.volts);
             slot[1..3].copy_from_slice(&profile.country);
             slot[VOLTS..VOLTS + 4].copy_from_slice(&volts.to_le_bytes());
             slot[HERTZ..HERTZ + 4].copy_from_slice(&profile.hertz.to_le_bytes());
-            slot[3] = class_of(volts).filter(|_| rng.below(16) > 0).unwrap_or(slot[3]);
+            slot[3] = table.class_of(volts).filter(|_| rng.below(16) > 0).unwrap_or(slot[3]);
         }
     }
 }
@@ -291,8 +321,8 @@ fn crowd(rng: &mut Rng, image: &mut [u8], profile: &Profile) {
 /// A store with many profiles of one country and hertz, asked about the volts of one of them, about others, or for
 /// what there is not.
 pub fn nearest(t: &mut Turn) -> u8 {
-    let mut profile = t.pick(&t.world.packages).profile;
-    let mut image = store_image(&mut t.rng, &profile);
+    let package = t.pick(&t.world.packages);
+    let (mut profile, mut image) = (package.profile, store_image(&mut t.rng, package));
     crowd(&mut t.rng, &mut image, &profile);
     if t.one_in(4) {
         let at = t.rng.below(CAPACITY) * IMAGE;

@@ -7,8 +7,8 @@ use peer::rng::Rng;
 use peer::sizes::Sizes;
 use std::array::from_fn;
 
-pub type LengthInC = unsafe extern "C" fn(*const u8, usize, *mut u8, usize, *mut usize) -> u8;
-pub type Length = fn(&[u8], &mut [u8], usize) -> (u8, usize);
+pub type LengthInC = unsafe extern "C" fn(*const u8, usize, *const u8, usize, *mut u8, usize, *mut usize) -> u8;
+pub type Length = fn(&[u8], &[u8], &mut [u8], usize) -> (u8, usize);
 
 pub struct Turn<'a> {
     pub rng: Rng,
@@ -100,16 +100,18 @@ impl<'a> Turn<'a> {
         answer
     }
 
-    /// An entry that writes at the front of a buffer of `room` bytes and gives the length.
-    pub fn length(&mut self, proved: LengthInC, plain: Length, input: &[u8], room: usize) -> u8 {
+    /// An entry that under a table writes at the front of a buffer of `room` bytes and gives the length.
+    pub fn length(&mut self, proved: LengthInC, plain: Length, table: &[u8], input: &[u8], room: usize) -> u8 {
         let mut expected = self.rng.bytes(room);
-        let (lent, mut out, mut length) = (self.lend(input), self.lend(&expected), self.lend_length());
-        let (from, to) = (lent.pointer(), out.pointer_mut());
+        let lent = self.lend_all([table, input]);
+        let (mut out, mut length) = (self.lend(&expected), self.lend_length());
+        let [(a, b), (c, d)] = lent.each_ref().map(|l| (l.pointer(), l.len()));
         // SAFETY: as above.
-        let answer = unsafe { proved(from, lent.len(), to, out.len(), length.pointer_mut()) };
-        let due = plain(input, &mut expected, length.held);
-        assert_eq!((answer, length.value()), due, "answer and length on {} into {room} bytes", shown(input));
-        lent.demand_unchanged();
+        let answer = unsafe { proved(a, b, c, d, out.pointer_mut(), out.len(), length.pointer_mut()) };
+        let due = plain(table, input, &mut expected, length.held);
+        let inputs = || format!("{}, table {}", shown(input), shown(table));
+        assert_eq!((answer, length.value()), due, "answer and length on {} into {room} bytes", inputs());
+        lent.iter().for_each(|l| l.demand_unchanged());
         out.demand(&expected);
         answer
     }

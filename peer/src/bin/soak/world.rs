@@ -1,12 +1,14 @@
 //! What the expensive inputs are made from: keys, signatures, rounds and packages that hold.
 
 use peer::archive::{Category, CATEGORIES};
-use peer::line::cases::{by_length, valid};
+use peer::line::cases::{by_length, valid_under};
 use peer::line::{write_line, Profile, LONGEST, NOMINAL_HERTZ, SHORTEST};
 use peer::rng::Rng;
 use peer::scheme::cases::Committed;
 use peer::scheme::RoundCase;
 use peer::sizes::Sizes;
+use peer::table::cases::sound;
+use peer::table::Table;
 
 pub struct Signed {
     pub key: Vec<u8>,
@@ -14,8 +16,10 @@ pub struct Signed {
     pub signature: Vec<u8>,
 }
 
-/// A package under the world's one key, with the profile that its line was made from.
+/// A package under the world's one key, with the profile that its line was made from and the table that it was made
+/// under.
 pub struct Package {
+    pub table: Table,
     pub profile: Profile,
     pub bytes: Vec<u8>,
 }
@@ -70,29 +74,31 @@ fn rounds(s: &Sizes, rng: &mut Rng) -> [RoundCase; 2] {
     [0, 1].map(|second| committed.case(s, 1 + rng.below(126) as u8, second))
 }
 
-/// Profiles of countries with a second letter from A to J, each at both hertz; the last have the shortest and the
-/// longest line of a kind.
-fn profiles(rng: &mut Rng) -> Vec<Profile> {
-    let drawn = (0..10).flat_map(|_| {
+/// Profiles of countries with a second letter from A to J, each at both hertz, every other country under a table of its
+/// own; the last have the shortest and the longest line of a kind.
+fn profiles(rng: &mut Rng) -> Vec<(Table, Profile)> {
+    let drawn = (0..10).flat_map(|at| {
+        let table = if at % 2 == 0 { Table::default() } else { sound(rng) };
         let country = [b'A' + rng.below(26) as u8, b'A' + rng.below(10) as u8];
-        let profile = Profile { country, ..valid(rng) };
-        NOMINAL_HERTZ.map(|hertz| Profile { hertz, serial: 2 + rng.below(1_000) as u32, ..profile })
+        let profile = Profile { country, ..valid_under(rng, &table) };
+        NOMINAL_HERTZ.map(|hertz| (table.clone(), Profile { hertz, serial: 2 + rng.below(1_000) as u32, ..profile }))
     });
     let ends = [false, true].map(by_length).map(|all| [all[0], all[all.len() - 1]]);
-    drawn.chain(ends.concat()).collect()
+    drawn.chain(ends.concat().into_iter().map(|profile| (Table::default(), profile))).collect()
 }
 
 /// A profile's line, signed. Every sixth breaks a rule, in turns by a comma and by the tag of the other kind: a signer
 /// may sign anything.
-fn package(category: &Category, rng: &mut Rng, seed: &[u8], (at, profile): (usize, Profile)) -> Package {
-    let mut line = write_line(&profile).expect("valid");
+fn package(category: &Category, rng: &mut Rng, seed: &[u8], one: (usize, (Table, Profile))) -> Package {
+    let (at, (table, profile)) = one;
+    let mut line = write_line(&table, &profile).expect("valid");
     match at % 12 {
         0 => line[3] = b';',
         6 => line[2] ^= b'1' ^ b'2',
         _ => (),
     }
     let bytes = [sign(category, rng, seed, &line), line].concat();
-    Package { profile, bytes }
+    Package { table, profile, bytes }
 }
 
 impl World {

@@ -6,72 +6,72 @@ type Program = fn(&[u8]) -> Result<Vec<u8>, Refusal>;
 
 /// The formulas are tested before the other fields, as far as there are fields.
 fn formulas_first(input: &[u8]) -> Result<Vec<u8>, Refusal> {
-    let frame = Frame { fields: fields(input).ok_or(BAD_PROFILE)?, volts: 230 };
+    let frame = Frame { table: &BUILT_IN, fields: fields(input).ok_or(BAD_PROFILE)?, volts: 230 };
     frame.values().collect::<Result<Vec<i64>, _>>()?;
-    evaluated(input)
+    evaluated(&BUILT_IN, input)
 }
 
 fn from_the_right(input: &[u8]) -> Result<Vec<u8>, Refusal> {
-    let values: Vec<_> = Frame::of(input)?.values().collect();
+    let values: Vec<_> = Frame::of(&BUILT_IN, input)?.values().collect();
     values.into_iter().rev().collect::<Result<Vec<i64>, _>>()?;
-    evaluated(input)
+    evaluated(&BUILT_IN, input)
 }
 
 /// Each number is tested as soon as it is there.
 fn ranges_at_once(input: &[u8]) -> Result<Vec<u8>, Refusal> {
-    let frame = Frame::of(input)?;
+    let frame = Frame::of(&BUILT_IN, input)?;
     let mut numbers = LIMITS.map(|(_, allowed)| allowed.parse().expect("a number"));
     for (at, value) in frame.values().enumerate() {
         numbers[at] = value?;
         frame.line(&numbers)?;
     }
-    evaluated(input)
+    evaluated(&BUILT_IN, input)
 }
 
 /// The ranges come before any fault of a formula.
 fn ranges_first(input: &[u8]) -> Result<Vec<u8>, Refusal> {
-    let frame = Frame::of(input)?;
+    let frame = Frame::of(&BUILT_IN, input)?;
     let mut numbers = LIMITS.map(|(_, allowed)| allowed.parse().expect("a number"));
     for (number, value) in numbers.iter_mut().zip(frame.values()) {
         *number = value.unwrap_or(*number);
     }
     frame.line(&numbers)?;
-    evaluated(input)
+    evaluated(&BUILT_IN, input)
 }
 
 /// An input must have the bytes of a profile line at least.
 fn least_length(input: &[u8]) -> Result<Vec<u8>, Refusal> {
     demand(input.len() >= 42, BAD_SIZE)?;
-    evaluated(input)
+    evaluated(&BUILT_IN, input)
 }
 
 /// An input must have the bytes of a profile line at most.
 fn most_length(input: &[u8]) -> Result<Vec<u8>, Refusal> {
     demand(input.len() <= 84, BAD_SIZE)?;
-    evaluated(input)
+    evaluated(&BUILT_IN, input)
 }
 
 fn always_230(input: &[u8]) -> Result<Vec<u8>, Refusal> {
-    let frame = Frame { volts: 230, ..Frame::of(input)? };
+    let frame = Frame { volts: 230, ..Frame::of(&BUILT_IN, input)? };
     let numbers: Vec<i64> = frame.values().collect::<Result<_, _>>()?;
     frame.line(&numbers)
 }
 
 /// The rate must stand as in a profile line.
 fn four_limits(input: &[u8]) -> Result<Vec<u8>, Refusal> {
-    let frame = Frame::of(input)?;
+    let frame = Frame::of(&BUILT_IN, input)?;
     let plain = |field: &&[u8]| field.iter().all(u8::is_ascii_digit) && !field.is_empty();
     demand(frame.fields.get(14).is_none_or(plain), BAD_PROFILE)?;
-    evaluated(input)
+    evaluated(&BUILT_IN, input)
 }
 
 /// A line that is too long when it is evaluated is 1.
 fn length_at_last(input: &[u8]) -> Result<Vec<u8>, Refusal> {
-    let frame = Frame::of(input)?;
+    let frame = Frame::of(&BUILT_IN, input)?;
     let numbers: Vec<i64> = frame.values().collect::<Result<_, _>>()?;
     let texts: Vec<String> = numbers.iter().map(i64::to_string).collect();
     let line = with_limits(&frame.fields, &texts);
-    read_line(&line).map(|_| line)
+    read_line(&BUILT_IN, &line).map(|_| line)
 }
 
 /// What is wrong, and the listed lines on which this shows, in their order.
@@ -113,7 +113,7 @@ fn shown(program: Program) -> Vec<&'static str> {
 /// Each program that is wrong shows somewhere, and just where it is said to; the right one nowhere.
 #[test]
 fn wrong_programs_show() {
-    assert!(shown(evaluated).is_empty());
+    assert!(shown(|input| evaluated(&BUILT_IN, input)).is_empty());
     for (name, program, wanted) in WRONG {
         assert!(shown(program) == wanted && !wanted.is_empty(), "{name}: {:?}", shown(program));
     }

@@ -26,7 +26,7 @@ fn rows_ascend() {
     let mut inputs = named(&mut rng);
     inputs.extend((0..2_000).map(|_| ("any", any(&mut rng))));
     for (name, input) in inputs {
-        assert!(ascends(&listing(&input)), "{name}: {}", String::from_utf8_lossy(&input));
+        assert!(ascends(&listing(&BUILT_IN, &input)), "{name}: {}", String::from_utf8_lossy(&input));
     }
 }
 
@@ -35,7 +35,7 @@ fn every_order_of_the_example() {
     let all: BTreeSet<String> = permutations(EXAMPLE).into_iter().collect();
     assert_eq!(all.len(), 24);
     for input in all {
-        assert_eq!(listing(input.as_bytes()), EXAMPLE_LISTED, "{input}");
+        assert_eq!(listing(&BUILT_IN, input.as_bytes()), EXAMPLE_LISTED, "{input}");
     }
 }
 
@@ -47,7 +47,7 @@ fn sixteen_profiles_in_any_order() {
     let mut rng = Rng::new(55);
     for _ in 0..300 {
         let input = shuffled(&mut rng, SIXTEEN);
-        assert_eq!(listing(input.as_bytes()), SIXTEEN_LISTED, "{input}");
+        assert_eq!(listing(&BUILT_IN, input.as_bytes()), SIXTEEN_LISTED, "{input}");
     }
 }
 
@@ -56,11 +56,11 @@ fn different_triples_in_any_order() {
     let mut rng = Rng::new(56);
     for _ in 0..50 {
         let input = different_triples(&mut rng);
-        let wanted = listing(input.as_bytes());
+        let wanted = listing(&BUILT_IN, input.as_bytes());
         assert!(wanted.lines().count() == 17 && ascends(&wanted), "{wanted}");
         for _ in 0..10 {
             let other = shuffled(&mut rng, &input);
-            assert_eq!(listing(other.as_bytes()), wanted, "{other}");
+            assert_eq!(listing(&BUILT_IN, other.as_bytes()), wanted, "{other}");
         }
     }
 }
@@ -70,7 +70,7 @@ fn different_triples_in_any_order() {
 #[test]
 fn after_sixteen_profiles() {
     let wanted = SIXTEEN_LISTED.replace("XA,B,50,12\n", "XA,B,50,13\n");
-    assert_eq!(listing(sixteen_and_more().as_bytes()), wanted);
+    assert_eq!(listing(&BUILT_IN, sixteen_and_more().as_bytes()), wanted);
 }
 
 /// Brings rows, which come as they are stored, into some order; it may look at the input too.
@@ -101,9 +101,9 @@ const WRONG: [(&str, &str, Order); 13] = [
 
 /// The listing with its rows in another order.
 fn listing_in(order: Order, input: &str) -> String {
-    let mut rows = stored(input.as_bytes()).profiles().to_vec();
+    let mut rows = stored(&BUILT_IN, input.as_bytes()).profiles().to_vec();
     order(input, &mut rows);
-    table(&rows)
+    rows_of(&rows)
 }
 
 /// The sign of an input in an order.
@@ -129,6 +129,6 @@ fn two_classes_at_both_hertz_tell_orders_apart() {
     let names = ["class before country", "hertz before class", "hertz descending"];
     let wrong = WRONG.iter().filter(|(name, ..)| names.contains(name));
     let wrong = wrong.map(|(.., order)| listing_in(*order, TWO_CLASSES));
-    let all: BTreeSet<String> = wrong.chain([listing(TWO_CLASSES.as_bytes())]).collect();
+    let all: BTreeSet<String> = wrong.chain([listing(&BUILT_IN, TWO_CLASSES.as_bytes())]).collect();
     assert_eq!(all.len(), 4);
 }

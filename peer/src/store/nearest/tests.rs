@@ -3,6 +3,7 @@
 use super::*;
 use crate::line::cases::handed_out;
 use crate::line::{read_line, write_line, LONGEST};
+use crate::table::BUILT_IN;
 
 /// The lines of the worked store.
 const LINES: [&[u8]; 3] = [
@@ -19,7 +20,7 @@ fn xa(hertz: u32, volts: u32) -> Measured<'static> {
 }
 
 fn worked(at: usize) -> Profile {
-    read_line(LINES[at]).expect("a line")
+    read_line(&BUILT_IN, LINES[at]).expect("a line")
 }
 
 /// The first worked profile at these volts, with a serial of its own; the class stays, and so it may break a rule.
@@ -53,7 +54,7 @@ fn the_worked_table() {
         (country(b"xa"), Err(10)),
     ];
     for order in ORDERS {
-        let store = Store(order.map(worked).to_vec());
+        let store = Store::holding(&order.map(worked));
         for (measured, wanted) in rows {
             assert_eq!(answer(&store, &measured), wanted.map(|at: usize| LINES[at].to_vec()), "{measured:?}");
             assert_eq!(store.nearest(&measured), wanted.map(worked), "{measured:?}");
@@ -66,7 +67,7 @@ fn the_lower_of_two_equally_far() {
     for distance in 1..=REACH {
         let [lower, upper] = [at(200 - distance, 1), at(200 + distance, 2)];
         for both in [[lower, upper], [upper, lower]] {
-            let store = Store(both.to_vec());
+            let store = Store::holding(&both);
             let found = [199, 200, 201].map(|volts| store.nearest(&xa(50, volts)));
             assert_eq!(found, [Ok(lower), Ok(lower), Ok(upper)], "{distance}");
         }
@@ -78,18 +79,18 @@ fn the_lower_of_two_equally_far() {
 fn the_nearer_before_the_lower() {
     let [lower, upper] = [at(190, 1), at(209, 2)];
     for both in [[lower, upper], [upper, lower]] {
-        assert_eq!(Store(both.to_vec()).nearest(&xa(50, 200)), Ok(upper));
+        assert_eq!(Store::holding(&both).nearest(&xa(50, 200)), Ok(upper));
     }
 }
 
 #[test]
 fn the_first_of_equal_volts() {
     let [first, second, nearer] = [at(230, 9), at(230, 3), at(240, 1)];
-    let store = Store(vec![first, second]);
+    let store = Store::holding(&[first, second]);
     for volts in [190, 229, 230, 231, 270] {
         assert_eq!(store.nearest(&xa(50, volts)), Ok(first), "{volts}");
     }
-    assert_eq!(Store(vec![first, second, nearer]).nearest(&xa(50, 236)), Ok(nearer));
+    assert_eq!(Store::holding(&[first, second, nearer]).nearest(&xa(50, 236)), Ok(nearer));
 }
 
 /// Volts at both ends of what an image can hold, each with measured ones in reach and out of it: no distance wraps.
@@ -106,7 +107,7 @@ fn any_volts_in_an_image() {
         (u32::MAX, &[], &[0, 39, 40, 2_000]),
     ];
     for (held, near, far) in cases {
-        let store = Store(vec![at(held, 1)]);
+        let store = Store::holding(&[at(held, 1)]);
         let found = |volts: &u32| store.nearest(&xa(50, *volts));
         assert!(near.iter().all(|volts| found(volts) == Ok(at(held, 1))), "{held}");
         assert!(far.iter().all(|volts| found(volts) == Err(9)), "{held}");
@@ -117,19 +118,19 @@ fn any_volts_in_an_image() {
 #[test]
 fn a_chosen_one_that_breaks_a_rule() {
     let [good, broken] = [at(230, 1), at(240, 0)];
-    let store = Store(vec![broken, good]);
-    assert_eq!(answer(&store, &xa(50, 235)), Ok(write_line(&good).unwrap()));
+    let store = Store::holding(&[broken, good]);
+    assert_eq!(answer(&store, &xa(50, 235)), Ok(write_line(&BUILT_IN, &good).unwrap()));
     for volts in [236, 240, 271, 280] {
         assert_eq!(answer(&store, &xa(50, volts)), Err(5), "{volts}");
     }
     assert_eq!(answer(&store, &xa(50, 281)), Err(9));
-    assert_eq!(answer(&Store(vec![at(260, 1)]), &xa(50, 250)), Err(5));
+    assert_eq!(answer(&Store::holding(&[at(260, 1)]), &xa(50, 250)), Err(5));
 }
 
 /// A slot that is not used is not seen, whatever it holds.
 #[test]
 fn used_slots_alone() {
-    let mut bytes = Store(vec![at(230, 1), at(240, 2)]).image();
+    let mut bytes = Store::holding(&[at(230, 1), at(240, 2)]).image();
     for used in [1, 2, 0x80, 0xFF, 0] {
         bytes[0] = used;
         let wanted = if used == 0 { at(240, 2) } else { at(230, 1) };
@@ -140,7 +141,7 @@ fn used_slots_alone() {
 /// 10 before 1, and 1 before 9 and 5.
 #[test]
 fn the_order_of_refusals() {
-    let (broken, good) = (Store(vec![at(230, 0)]).image(), xa(50, 230));
+    let (broken, good) = (Store::holding(&[at(230, 0)]).image(), xa(50, 230));
     let countries = [&b""[..], b"X", b"XAA", b"X@"].map(|country| Measured { country, ..good });
     let numbers =
         [(50, 2_001), (50, 65_536 + 230), (50, u32::MAX), (50 + 256, 230)].map(|(hertz, volts)| xa(hertz, volts));

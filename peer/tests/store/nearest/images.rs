@@ -5,13 +5,14 @@ use crate::both::{holding, placed, Both};
 use crate::images::any_store;
 use peer::archive::CATEGORY_1;
 use peer::harness::Tally;
-use peer::line::{class_of, image, meaning, write_line, Kind, Profile, Rate, HERTZ, IMAGE, NOMINAL_HERTZ, VOLTS};
+use peer::line::{image, meaning, write_line, Kind, Profile, Rate, HERTZ, IMAGE, NOMINAL_HERTZ, VOLTS};
 use peer::rng::Rng;
-use peer::store::{Measured, CAPACITY, STORE};
+use peer::store::{Measured, CAPACITY, SLOTS, STORE};
+use peer::table::BUILT_IN;
 
 /// What the used slots of an image hold, in their order.
 fn used(bytes: &[u8]) -> Vec<Profile> {
-    let slots = bytes.chunks_exact(IMAGE).filter(|slot| slot[0] != 0);
+    let slots = bytes[..SLOTS].chunks_exact(IMAGE).filter(|slot| slot[0] != 0);
     slots.map(|slot| meaning(slot.try_into().expect("a slot"))).collect()
 }
 
@@ -58,7 +59,7 @@ fn the_first_of_equal_volts() {
         for (first, [one, other]) in (0..second).flat_map(|first| pairs.map(|pair| (first, pair))) {
             asked.hold(&placed(&[(first, one), (second, other)]));
             for volts in [190, 229, 230, 231, 270] {
-                assert_eq!(asked.near(&xa(50, volts)), write_line(&one), "{first} {second} {volts}");
+                assert_eq!(asked.near(&xa(50, volts)), write_line(&BUILT_IN, &one), "{first} {second} {volts}");
             }
         }
     }
@@ -75,7 +76,7 @@ fn sixteen_in_reach() {
         asked.hold(&holding(&stored));
         for volts in 140..=310u32 {
             let steps = (volts.saturating_sub(180) + 2) / 6;
-            assert_eq!(asked.near(&xa(50, volts)), write_line(&at(180 + 6 * steps.min(15), 50)), "{volts}");
+            assert_eq!(asked.near(&xa(50, volts)), write_line(&BUILT_IN, &at(180 + 6 * steps.min(15), 50)), "{volts}");
         }
         assert_eq!([139, 311].map(|volts| asked.answer(&xa(50, volts))), [9; 2]);
     }
@@ -112,7 +113,7 @@ fn broken_by(asked: &mut Asked, fault: fn(&mut Profile), of_both: [u32; 2]) {
             let wanted = match bad.min(fine) {
                 (41.., _) => Err(9),
                 _ if bad < fine || (bad == fine && stored[0] == broken) => Err(5),
-                _ => write_line(&good),
+                _ => write_line(&BUILT_IN, &good),
             };
             assert_eq!(asked.near(&xa(50, volts)), wanted, "{volts} {stored:?}");
         }
@@ -191,7 +192,7 @@ fn each_byte() {
             1 | 2 | 9..=15 => assert_eq!(answer, if byte == was { 0 } else { 9 }, "{place} {byte}"),
             _ => assert!([0, 5].contains(&answer), "{place} {byte}"),
         }
-        alone[15 * IMAGE..].copy_from_slice(&image(&at(250, 50)));
+        alone[15 * IMAGE..SLOTS].copy_from_slice(&image(&at(250, 50)));
         asked.hold(&alone);
         for volts in [200, 230, 239, 240, 241] {
             asked.answer(&xa(50, volts));
@@ -206,7 +207,7 @@ fn each_byte() {
 fn free_slots() {
     let mut asked = Asked::new("slots that are not used");
     let mut free = holding(&[at(230, 50); CAPACITY]);
-    free.chunks_exact_mut(IMAGE).for_each(|slot| slot[0] = 0);
+    free[..SLOTS].chunks_exact_mut(IMAGE).for_each(|slot| slot[0] = 0);
     asked.hold(&free);
     assert_eq!([0, 190, 230, 270].map(|volts| asked.answer(&xa(50, volts))), [9; 4]);
     for (slot, mark) in (0..CAPACITY).flat_map(|slot| (1..=255).map(move |mark| (slot, mark))) {
@@ -215,7 +216,7 @@ fn free_slots() {
         bytes[slot * IMAGE] = mark;
         asked.hold(&bytes);
         for (volts, is_near) in [(209, false), (210, true), (230, true), (290, true), (291, false)] {
-            let wanted = if is_near { write_line(&at(250, 50)) } else { Err(9) };
+            let wanted = if is_near { write_line(&BUILT_IN, &at(250, 50)) } else { Err(9) };
             assert_eq!(asked.near(&xa(50, volts)), wanted, "{slot} {mark} {volts}");
         }
     }
@@ -225,7 +226,7 @@ fn free_slots() {
 /// Any bytes, but with many slots of a few countries at a few volts, so that several are in reach.
 fn crowded(rng: &mut Rng) -> Vec<u8> {
     let (mut bytes, lowest) = (any_store(rng), [0, 60, 100, 200, 480, 970, 1_900][rng.below(7)]);
-    for slot in bytes.chunks_exact_mut(IMAGE) {
+    for slot in bytes[..SLOTS].chunks_exact_mut(IMAGE) {
         if rng.below(4) > 0 {
             slot[1..3].copy_from_slice(PAIR[rng.below(2)]);
             slot[HERTZ..HERTZ + 4].copy_from_slice(&NOMINAL_HERTZ[rng.below(2)].to_le_bytes());
@@ -233,7 +234,7 @@ fn crowded(rng: &mut Rng) -> Vec<u8> {
         if rng.below(4) > 0 {
             let volts = lowest + 2 * rng.below(24) as u32;
             slot[VOLTS..VOLTS + 4].copy_from_slice(&volts.to_le_bytes());
-            slot[3] = class_of(volts).unwrap_or(slot[3]);
+            slot[3] = BUILT_IN.class_of(volts).unwrap_or(slot[3]);
         }
     }
     bytes
@@ -248,7 +249,7 @@ fn strange(used: &[Profile], m: &Measured) -> [bool; 3] {
     let times = |volts: Option<u32>| near.iter().filter(|p| Some(p.volts) == volts).count();
     let [below, above] =
         [least.and_then(|away| m.volts.checked_sub(away)), least.map(|away| m.volts + away)].map(times);
-    let broken = near.iter().filter(|p| !p.is_valid()).count();
+    let broken = near.iter().filter(|p| !p.is_valid(&BUILT_IN)).count();
     [least > Some(0) && below.min(above) > 0, below.max(above) > 1, broken > 0 && broken < near.len()]
 }
 

@@ -7,6 +7,7 @@ use peer::harness::Tally;
 use peer::line::cases::NO_HERTZ;
 use peer::line::{is_country, write_line, Profile, NOMINAL_HERTZ};
 use peer::store::{Measured, STORE};
+use peer::table::BUILT_IN;
 
 /// Numbers that are no measured volts: above the most, and with 230, or 40 and less, in their low bytes.
 const NO_VOLTS: [u32; 16] = [
@@ -35,7 +36,7 @@ fn every_country() {
     for country in (0..=u16::MAX).map(u16::to_be_bytes) {
         let profile = Profile { country, ..at(230, 50) };
         let both = Both::from(&CATEGORY_1, &holding(&[at(230, 50), profile]));
-        let wanted = if is_country(&country) { write_line(&profile) } else { Err(10) };
+        let wanted = if is_country(&country) { write_line(&BUILT_IN, &profile) } else { Err(10) };
         assert_eq!(both.near(&mut t, &Measured { country: &country, ..xa(50, 230) }), wanted, "{country:?}");
     }
     t.finish(65_536, &[0, 10]);
@@ -50,7 +51,7 @@ fn every_hertz() {
     for hertz in (0..300).chain(NO_HERTZ).chain(flipped) {
         let profile = at(230, hertz);
         let both = Both::from(&CATEGORY_1, &placed(&[(3, profile), (5, at(231, 50)), (6, at(231, 60))]));
-        let wanted = if NOMINAL_HERTZ.contains(&hertz) { write_line(&profile) } else { Err(10) };
+        let wanted = if NOMINAL_HERTZ.contains(&hertz) { write_line(&BUILT_IN, &profile) } else { Err(10) };
         assert_eq!(both.near(&mut t, &xa(hertz, 230)), wanted, "{hertz}");
     }
     t.finish(379, &[0, 10]);
@@ -109,7 +110,7 @@ fn order() {
     let broken = [Profile { serial: 0, ..good }, Profile { class: b'C', ..good }].map(|broken| holding(&[broken]));
     let far = [holding(&[]), holding(&[at(312, 50), at(148, 50), at(100, 60)])];
     let whole = holding(&[good, Profile { serial: 0, ..good }]);
-    let sizes = [0, 76, 1_140, 1_215, 1_217, 2_432].map(|len| whole.iter().copied().cycle().take(len).collect());
+    let sizes = [0, 76, 1_216, 1_531, 1_533, 3_064].map(|len| whole.iter().copied().cycle().take(len).collect());
     let images: Vec<Vec<u8>> = [vec![whole], broken.to_vec(), far.to_vec(), sizes.to_vec()].concat();
     for (image, of_image) in images.iter().zip([0, 5, 5, 9, 9, 1, 1, 1, 1, 1, 1]) {
         let both = Both::from(&CATEGORY_1, image);
@@ -137,5 +138,5 @@ fn sizes() {
     for room in 0..=168 {
         assert_eq!(both.nearest(&mut t, &xa(50, 230), room), u8::from(room != 84), "{room}");
     }
-    t.finish(2_433 + 169, &[0, 1]);
+    t.finish(3_065 + 169, &[0, 1]);
 }
