@@ -4,8 +4,8 @@ use super::*;
 use crate::rng::Rng;
 use crate::table::BUILT_IN;
 
-/// What an entry answers that writes a line into lent bytes, and the line: past it, and after a refusal, bytes and length
-/// are as they were.
+/// What an entry answers that writes a line into lent bytes, and the line: past it, and after a refusal, bytes and
+/// length are as they were.
 pub fn handed_out(entry: impl FnOnce(&mut [u8], usize) -> (Refusal, usize)) -> Result<Vec<u8>, Refusal> {
     let mut out = [7; LONGEST];
     let (answer, length) = entry(&mut out, 99);

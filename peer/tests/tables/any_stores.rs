@@ -138,8 +138,8 @@ fn loads() {
     }
 }
 
-/// Each byte of the table of a store that holds a profile changed to each value: the lookup goes by what the table means
-/// then.
+/// Each byte of the table of a store that holds profiles changed to each value: the lookup goes by what the table then
+/// means.
 #[test]
 fn every_byte_of_the_table() {
     let mut t = Tally::new("lookup, bytes of a store's table");

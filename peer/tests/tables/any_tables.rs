@@ -36,8 +36,8 @@ fn counts() {
     evaluations.finish(43 * 52, &[0, 5]);
 }
 
-/// One row of all volts with any letter: a profile of any class is valid where the class is the letter and one from A to
-/// Z. Of a letter of several bytes the low one does not count.
+/// One row of all volts with any letter: a profile is valid where its class is the letter and one from A to Z. Of a
+/// letter of several bytes the low one does not count.
 #[test]
 fn every_letter() {
     let [mut reads, mut writes] = [READ, WRITE].map(|entry| entry.under("any letter"));

@@ -157,8 +157,8 @@ fn every_two_letters() {
     c.finish(&[0, 13]);
 }
 
-/// Numbers about both ends of the range as low and high volts of a row; and as the high volts of one and the low ones of
-/// the next.
+/// Numbers about both ends of the range as low and high volts of a row; and as the high volts of one and the low ones
+/// of the next.
 #[test]
 fn volts() {
     let mut c = reader(50 * 50 * 2);

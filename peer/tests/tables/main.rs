@@ -1,5 +1,6 @@
 //! Class tables through C, beside the independent program: files read and offered to stores, lines and packages under
-//! tables, loads, lookups and the nearest profile in stores that have one, and images of any bytes as tables and stores.
+//! tables, loads, lookups and the nearest profile in stores that have one, and images of any bytes as tables and as
+//! stores.
 
 mod any_stores;
 mod any_tables;
@@ -52,7 +53,7 @@ fn rows(image: &[u8; TABLE]) -> Vec<[u32; 3]> {
     }
 }
 
-/// Whether a class and volts of a profile agree under an image: the first row that holds the volts has this letter, which
+/// Whether class and volts of a profile agree under an image: the first row that holds the volts has this letter, which
 /// is one from A to Z, and the volts are a line's.
 pub fn agree(image: &[u8; TABLE], class: u8, volts: u32) -> bool {
     let holding = rows(image).into_iter().rev().filter(|[_, low, high]| *low <= volts && volts <= *high);

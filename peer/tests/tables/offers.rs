@@ -56,7 +56,7 @@ fn every_mark() {
     t.finish(16 * 256 * 2 + STORE - 16, &[0, 13, 14]);
 }
 
-/// Every length of a store up to twice the right one: only one is right, whatever file is offered and whatever is stored.
+/// Every length of a store up to twice the right one: only one is right, whatever is offered and whatever is stored.
 #[test]
 fn sizes() {
     let mut t = Tally::new("load_table, sizes");

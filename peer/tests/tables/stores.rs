@@ -167,7 +167,7 @@ fn nearest_under_another_table() {
     t.finish(36 * 197, &[0, 5, 9]);
 }
 
-/// Stores of other sizes: the built-in classes count for 10, whatever bytes stand where a table would, and then it is 1.
+/// Stores of other sizes: the built-in classes count for 10, whatever bytes stand where a table would; then it is 1.
 #[test]
 fn sizes() {
     let [mut loads, mut finds, mut nears] =

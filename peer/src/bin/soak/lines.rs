@@ -15,7 +15,7 @@ use peer::rng::Rng;
 use peer::table::cases::some_profile;
 use peer::table::{Table, BUILT_IN};
 
-/// A profile, under the built-in classes a valid one, and else mostly. One of eight valid ones is chosen by the length of
+/// A profile: under the built-in classes a valid one, and else mostly. Of those one of eight is chosen by the length of
 /// its line: the shortest of its kind, the longest, or any.
 pub fn profile(rng: &mut Rng, table: &Table) -> Profile {
     if *table != BUILT_IN {

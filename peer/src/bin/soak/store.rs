@@ -181,8 +181,8 @@ impl Loading {
         }
     }
 
-    /// Package or key damaged, the device set to another country or class or to the other hertz, or another table in the
-    /// store; almost half of them are left.
+    /// Package or key damaged, the device set to another country or class or to the other hertz, or another table in
+    /// the store; almost half of them are left.
     fn spoilt(&mut self, t: &mut Turn) {
         let (line, rng) = (t.sizes().signature(), &mut t.rng);
         let table = table_of(&self.image);
