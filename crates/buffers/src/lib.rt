@@ -1,4 +1,6 @@
 // Bytes copied and compared.
+#![tactic(auto)]
+
 ghost use Rattle.std.specs.Prelude.{◌≡◌, length};
 ghost use Rattle.outcome.specs.Lists.{same};
 

@@ -1,9 +1,11 @@
 // Numbers in decimal: written into a buffer at a place, and read from a slice at a place.
+#![tactic(auto)]
+
 ghost use Rattle.std.specs.Prelude.{◌≡◌, ◌+◌, ◌-◌, ◌*◌, min, ◌≤◌, ◌<◌, length};
 ghost use Rattle.decimal.specs.Decimal.{decimal, largest, is_digit, NumberAt, NumberBehind, Room, Appended};
 
 // A number that was read, and the place after its last digit.
-#[derive(Drop)]
+#[derive(Clone, Copy)]
 pub struct Number {
     pub value: u32,
     pub end: usize,

@@ -1,5 +1,7 @@
 // Theorems carried to the running code: thin functions over the entries, whose contracts say of what they return that
 // what is signed verifies and that four replies open the key (duty 3), and that a made package loads.
+#![tactic(auto)]
+
 pub mod category1;
 pub mod category3;
 pub mod category5;

@@ -1,4 +1,6 @@
 // Lines whose limits are written as formulas, and the plain lines that they stand for.
+#![tactic(auto)]
+
 mod fields;
 mod rewrite;
 

@@ -12,7 +12,7 @@ use decimal::write_decimal;
 use formula::{Evaluated, evaluate};
 
 // The text is this long; or a formula has one of the two faults.
-#[derive(Drop)]
+#[derive(Clone, Copy)]
 pub enum Rewritten {
     Length(usize),
     BadFormula,

@@ -1,5 +1,7 @@
 // Seeds expanded: strings are hashed into a block, and the block is sampled into lent scratch that has eight places
 // to spare.
+#![tactic(auto)]
+
 pub mod entry;
 pub mod numbers;
 

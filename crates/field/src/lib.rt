@@ -1,6 +1,8 @@
 // Values modulo 127, values inside sums, and exponents modulo 7, as three types: none is taken where another is meant.
 // Every product with a power of 2 is read from one table, by times_power_with. Sums are folded, not divided: 128 is 1
 // modulo 127, so that a number's lowest seven bits and the rest of it have a smaller sum with the same remainder.
+#![tactic(auto)]
+
 pub mod table;
 
 ghost use Rattle.std.specs.Prelude.{◌≡◌, ◌+◌, ◌*◌, ◌/◌, ◌%◌, ◌<◌, ◌≤◌};
@@ -10,15 +12,15 @@ ghost use Rattle.field.specs.InnerProducts.{Products, Multiples};
 use crate::table::PRODUCTS;
 
 // A value modulo 127, from 0 to 126.
-#[derive(Drop)]
+#[derive(Clone, Copy)]
 pub struct Value(pub u8);
 
 // A value modulo 127 inside sums, from 0 to 127: zero has two spellings, 0 and 127.
-#[derive(Drop)]
+#[derive(Clone, Copy)]
 pub struct Loose(pub u8);
 
 // An exponent modulo 7, from 0 to 6; it stands for a power of 2.
-#[derive(Drop)]
+#[derive(Clone, Copy)]
 pub struct Exponent(pub u8);
 
 // The table of products. A constant is copied where it is used: a vector asks for the table once and lends it.

@@ -1,4 +1,6 @@
 // Limits written as formulas: read by the grammar, and worked out in the same pass.
+#![tactic(auto)]
+
 mod reader;
 mod steps;
 
@@ -17,7 +19,7 @@ pub const LONGEST_FORMULA: usize = 64;
 pub const DEEPEST: usize = 8;
 
 // A field is worth this number; or it is no formula; or a step of it cannot be taken.
-#[derive(Drop)]
+#[derive(Clone, Copy)]
 pub enum Evaluated {
     Value(i64),
     BadFormula,

@@ -11,7 +11,7 @@ use decimal::read_decimal;
 pub const MOST_NUMBER: u32 = 1000000;
 
 // A part was read, is worth this and ends before this place; or none stands there.
-#[derive(Drop)]
+#[derive(Clone, Copy)]
 pub enum Part {
     Read { worth: Worth, end: usize },
     Unread,

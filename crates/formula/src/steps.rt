@@ -5,7 +5,7 @@ ghost use Rattle.formula.specs.Grammar.{sum_step, product_step, summed, scaled};
 ghost use Rattle.formula.specs.InnerReader.{worth_of, Bounded, bounded};
 
 // What a part of a formula is worth; or that a step of it cannot be taken.
-#[derive(Drop)]
+#[derive(Clone, Copy)]
 pub enum Worth {
     Number(i64),
     Fault,

@@ -1,5 +1,7 @@
 // The C interface: every entry over bytes and numbers. A slice is a pointer and a length in C. What the sizes of a
 // category decide stands in the category's module; the rest is here, with the contract of the function that it calls.
+#![tactic(auto)]
+
 pub mod category1;
 pub mod category3;
 pub mod category5;

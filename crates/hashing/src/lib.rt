@@ -1,5 +1,7 @@
 // Hashing tagged strings that are given in parts: the tag byte, then the parts in order. No string is put together.
 // Up to four parts go in without a sponge being handed on, which would be copied.
+#![tactic(auto)]
+
 ghost use Rattle.std.specs.Prelude.{◌≡◌, [], ◌∷◌, ◌++◌, length};
 ghost use Rattle.shake.specs.InnerFold.{Rate, Holds};
 ghost use Rattle.shake.specs.Shake.{shake};

@@ -1,4 +1,6 @@
 // Profiles as images, bytes that C holds, and the line entries over them, under the classes of a table.
+#![tactic(auto)]
+
 pub mod read;
 pub mod write;
 

@@ -1,5 +1,7 @@
 // Keccak-f[1600], the permutation of FIPS 202 (section 3): specs/Keccak.antt.
 // A round goes from one array of lanes to another, plane by plane, and keeps six lanes complemented: specs/Planes.antt.
+#![tactic(auto)]
+
 ghost use Rattle.std.specs.Prelude.{◌<◌, [], ◌∷◌, ◌≡◌, length};
 ghost use Rattle.keccak.specs.Keccak.{rotl, complement, offsets, keccak_f};
 ghost use Rattle.keccak.specs.InnerPlanes.{reveal_row, held_plane, Parity, Beside, Hidden, Round};

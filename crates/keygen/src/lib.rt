@@ -1,4 +1,6 @@
 // Making keys, over the sizes of a category and lent scratch.
+#![tactic(auto)]
+
 ghost use Rattle.std.specs.Prelude.{◌≡◌, ◌++◌, ◌+◌, ◌*◌, ◌≤◌, T, length};
 ghost use Rattle.parameters.specs.Sound.{Sound};
 ghost use Rattle.packing.specs.Packing.{all_below, pack};

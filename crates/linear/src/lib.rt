@@ -1,6 +1,8 @@
 // Vectors place by place, and the syndrome. A vector is a slice of bytes; each place goes through field's functions, or
 // reads what they looked up before the loop. The table of products is copied once for a vector. Sums come out loose, with
 // 127 as well as 0 for zero: normalize gives them the one spelling that is hashed, compared or written.
+#![tactic(auto)]
+
 ghost use Rattle.std.specs.Prelude.{◌≡◌, ◌+◌, ◌*◌, ◌%◌, ◌<◌, ◌≤◌, T, length, take, drop};
 ghost use Rattle.packing.specs.Packing.{all_below};
 ghost use Rattle.linear.specs.Linear.{powers as powersOf, scaled, response, transformation, less_times};

@@ -1,5 +1,7 @@
 // The stored profile that is nearest to a measured voltage: a suggestion for a fitter who has only a voltmeter. The
 // store is only read.
+#![tactic(auto)]
+
 pub mod search;
 
 ghost use Rattle.std.specs.Prelude.{◌≡◌, length};
@@ -20,7 +22,7 @@ pub const MOST_VOLTS: u32 = 2000;
 pub const REACH: u32 = 40;
 
 // What a fitter knows: the country, its hertz, and the volts that were measured. It may hold anything.
-#[derive(Drop)]
+#[derive(Clone, Copy)]
 pub struct Measured {
     pub country: Country,
     pub hertz: u32,

@@ -1,4 +1,6 @@
 // Refusals and their numbers, as the definitions in specs/ and the C header have them. An answer of 0 is none.
+#![tactic(auto)]
+
 pub const BAD_SIZE: u8 = 1;
 
 pub const SHORT_DRAW: u8 = 2;

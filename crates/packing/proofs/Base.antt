@@ -38,6 +38,7 @@ digits_below w (suc n) x = more (mod-lt x (pow_pos w)) (digits_below w n (x / 2 
 -- digit i begins at bit w * i
 pub digits_at : (w n x i : ℕ) → i < n → get_or (digits w n x) i 0 ≡ x / 2 ^ (w * i) % 2 ^ w
 unfolding digits
+digits_at w zero x i h = absurd (omega arith)
 digits_at w (suc n) x zero h = rw (shift_none w x)
 digits_at w (suc n) x (suc i) h =
     digits_at w n (x / 2 ^ w) i (le_of_suc-le-suc h) ∙ ap (λ (y : ℕ). y % 2 ^ w) (shift_first w i x)

@@ -3,6 +3,8 @@
 // It is a change of base: eight fields of w bits are the same number as w bytes. So packing and unpacking are one
 // code: `regroup` reads each whole group as a number and writes that number in the other base, and `finish` does
 // the same with what is left over. The functions with constant widths call small generic ones, which then inline.
+#![tactic(auto)]
+
 ghost use Rattle.std.specs.Prelude.{◌≡◌, true, false, ◌++◌, ℕ, ◌+◌, ◌-◌, ◌*◌, ◌/◌, ◌^◌, ◌<◌, ◌≤◌, max, ltb, length, take, drop};
 ghost use Rattle.outcome.specs.Answer.{first_refusal, pick};
 ghost use Rattle.packing.specs.Packing.{number, digits, size, all_below, pack_checks, unpack_checks, Unpacks};

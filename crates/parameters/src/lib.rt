@@ -1,7 +1,9 @@
 // The sizes of a category, as plain numbers. The code of the scheme takes them as an argument, so that another
 // category is another set of numbers: a constant here, and the same in specs/Categories, which the contracts cite.
 
-#[derive(Drop)]
+#![tactic(auto)]
+
+#[derive(Clone, Copy)]
 pub struct Params {
     // places of a vector, and how many of them the matrix V covers
     pub n: usize,

@@ -1,4 +1,6 @@
 // The preview: what a device would hold after the lines of an input, each stored as if it were signed.
+#![tactic(auto)]
+
 ghost use Rattle.std.specs.Prelude.{◌≡◌, ◌≤◌, T, length};
 ghost use Rattle.decimal.specs.Decimal.{Room, Appended};
 ghost use Rattle.outcome.specs.Result.{done};

@@ -1,4 +1,6 @@
 // Lists what a device would hold after the profile lines on standard input, each taken as if it were signed.
+#![tactic(auto)]
+
 use preview::{LENT_SIZE, LONGEST_INPUT, Previewed, preview};
 use profile::table::TABLE_SIZE;
 

@@ -1,5 +1,7 @@
 // Grid profiles and their lines: a profile is read only from the one line that means it, and written as that line. Both
 // go by the classes of a table that is lent as its image.
+#![tactic(auto)]
+
 pub mod rules;
 mod scan;
 pub mod table;
@@ -20,7 +22,7 @@ pub const LONGEST: usize = 84;
 
 // Where a trip point trips: a voltage in thousandths of nominal, millihertz above or below the nominal frequency, or a
 // rate of change of frequency in millihertz per second.
-#[derive(Drop)]
+#[derive(Clone, Copy)]
 pub enum Limit {
     Share(u32),
     Offset { below: bool, millihertz: u32 },
@@ -28,28 +30,28 @@ pub enum Limit {
 }
 
 // A limit, and the delay in milliseconds after which passing it trips.
-#[derive(Drop)]
+#[derive(Clone, Copy)]
 pub struct Trip {
     pub limit: Limit,
     pub delay: u32,
 }
 
 // The trip point that not every profile has.
-#[derive(Drop)]
+#[derive(Clone, Copy)]
 pub enum RatePoint {
     Absent,
     Present(Trip),
 }
 
 // The two letters of a country.
-#[derive(Drop)]
+#[derive(Clone, Copy)]
 pub struct Country {
     pub first: u8,
     pub second: u8,
 }
 
 // The class follows from the volts and is held all the same, so that a profile in which they disagree can be refused.
-#[derive(Drop)]
+#[derive(Clone, Copy)]
 pub struct Profile {
     pub country: Country,
     pub class: u8,
@@ -64,7 +66,7 @@ pub struct Profile {
 }
 
 // The class letter of nominal volts, where they have one. In a table it may be any number.
-#[derive(Drop)]
+#[derive(Clone, Copy)]
 pub enum ClassFound {
     Letter(u32),
     OutOfRange,

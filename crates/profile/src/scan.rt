@@ -11,7 +11,7 @@ use buffers::equal;
 use decimal::{Number, number_behind};
 
 // A trip point that was read, and the place after it.
-#[derive(Drop)]
+#[derive(Clone, Copy)]
 pub struct TripRead {
     pub trip: Trip,
     pub end: usize,

@@ -6,7 +6,7 @@ ghost use Rattle.sampling.specs.InnerScratch.{Room, Sampled};
 
 // A draw: the fields of `width` bits of a block of `bytes` bytes, of which those below `limit` are kept, each plus
 // `added`, until there are `count`.
-#[derive(Drop)]
+#[derive(Clone, Copy)]
 pub struct Draw {
     pub width: usize,
     pub limit: u8,

@@ -1,5 +1,7 @@
 // The scheme on paper: its definitions stand in specs/, the theorems about them in proofs/. The code here gives the
 // sizes that the definitions derive from those of a category, and the tags of the hashed strings.
+#![tactic(auto)]
+
 pub mod tag;
 
 ghost use Rattle.std.specs.Prelude.{◌≡◌};

@@ -1,4 +1,6 @@
 // SHAKE (FIPS 202): a sponge over Keccak-f[1600] that takes a string in part by part, and fills a lent buffer.
+#![tactic(auto)]
+
 ghost use Rattle.std.specs.Prelude.{◌≡◌, [], ◌∷◌, ◌++◌, ◌+◌, ◌-◌, ◌*◌, ◌%◌, ◌<◌, ◌≤◌, length, take};
 ghost use Rattle.keccak.specs.Keccak.{keccak_f};
 ghost use Rattle.shake.specs.Shake.{little, low_bytes, bytes_of, squeezed, shake, Hashes128, Hashes256};

@@ -1,5 +1,7 @@
 // SHAKE128 and SHAKE256 of published examples, a line of hexadecimal digits for each.
 
+#![tactic(auto)]
+
 fn digit(n: u8) -> u8 {
     if n < 10 {
         return b'0' + n;

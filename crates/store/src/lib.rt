@@ -1,5 +1,7 @@
 // The accepted profiles (document 01's shelf): sixteen slots, one profile for each country, class and hertz, and behind
 // them the class table. A store is its image, and every image is a store, also one that no run of calls makes.
+#![tactic(auto)]
+
 pub mod slots;
 
 ghost use Rattle.std.specs.Prelude.{◌≡◌, ◌+◌, ◌*◌, ◌≤◌, length};
@@ -31,7 +33,7 @@ pub const SLOTS_SIZE: usize = CAPACITY * PROFILE_SIZE;
 pub const STORE_SIZE: usize = SLOTS_SIZE + TABLE_SIZE;
 
 // What a profile is stored under.
-#[derive(Drop)]
+#[derive(Clone, Copy)]
 pub struct Key {
     pub country: Country,
     pub class: u32,
@@ -39,7 +41,7 @@ pub struct Key {
 }
 
 // The country, class and hertz that a device is set to. It may hold anything.
-#[derive(Drop)]
+#[derive(Clone, Copy)]
 pub struct Device {
     pub country: Country,
     pub class: u32,

@@ -12,7 +12,7 @@ use profile::table::{FIRST_ROW, MOST_ROWS, ROW_SIZE};
 use words::{append_word, append_words};
 
 // A row that was read.
-#[derive(Drop)]
+#[derive(Clone, Copy)]
 pub struct Row {
     pub letter: u8,
     pub low: u32,

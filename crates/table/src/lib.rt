@@ -1,4 +1,6 @@
 // The customer's own class table: its file is read into its image, and loaded into a store.
+#![tactic(auto)]
+
 mod file;
 
 ghost use Rattle.std.specs.Prelude.{◌≡◌, length};

@@ -1,5 +1,7 @@
 // The two spellings of zero in the running code: for a syndrome, a response and a difference of kept inputs, the place as the
 // sum leaves it, which is 127, and as normalize leaves it, which is 0.
+#![tactic(auto)]
+
 pub mod kept;
 
 use crate::kept::{DIFFERENCE, RESPONSE, ROW, X};

@@ -1,4 +1,6 @@
 // Verifying signatures and examining single rounds, over the sizes of a category and lent scratch.
+#![tactic(auto)]
+
 pub mod key;
 pub mod reply;
 pub mod rounds;

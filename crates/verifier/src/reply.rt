@@ -15,7 +15,7 @@ use parameters::{DRAWN_PLACES, PACKED_EXPONENTS, PACKED_VALUES, PLACES, Params};
 use scheme::tag;
 
 // A round: its number from 1, its first and its second challenge.
-#[derive(Drop)]
+#[derive(Clone, Copy)]
 pub struct Round {
     pub i: usize,
     pub beta: Value,

@@ -1,4 +1,6 @@
 // Numbers of four bytes, low byte first, as images hold them.
+#![tactic(auto)]
+
 ghost use Rattle.std.specs.Prelude.{◌≡◌, ◌++◌, ◌+◌, ◌≤◌, ◌%◌, length};
 ghost use Rattle.decimal.specs.Decimal.{Appended};
 ghost use Rattle.words.specs.Words.{number, word_at, word, Small};

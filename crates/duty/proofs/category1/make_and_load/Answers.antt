@@ -1,0 +1,11 @@
+-- `make_and_load`: what was made lies within what was lent, and the four answers, put together. Assumes nothing.
+use borrow.Author.Rules.{rules}
+use Rattle.parameters.proofs.Sound.{sound_1}
+use Rattle.duty.proofs.CarryLoad.{made_within, made_length, makes_and_loads}
+use Rattle.duty.proofs.category1.make_and_load.Goals as goal
+
+pub returns : goal.returns
+returns c =
+    makes_and_loads sound_1 c.gridprofile_make_key-key_answer.ensures c.gridprofile_make_package-make_answer.ensures
+    c.gridprofile_load-load_answer.ensures
+    c.gridprofile_lookup-lookup_answer.ensures

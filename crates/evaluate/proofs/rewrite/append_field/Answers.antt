@@ -1,0 +1,14 @@
+-- `evaluate::rewrite::append_field` meets its contract. Assumes nothing.
+use mathlib.Core.Path.{refl}
+use Prim.Native.Nat.{◌+◌}
+use lib.ListN.{length}
+use Rattle.decimal.proofs.Stores.{put_part}
+use borrow.Author.Rules.{rules}
+use Rattle.evaluate.proofs.rewrite.append_field.Goals as goal
+
+pub returns : goal.returns
+returns c =
+    let copy = c.copy in
+    let a = c.args in
+    put_part a.out.now copy.new.to a.field.now a.at (a.at + length a.field.now) copy.ensures refl
+    c.requires.room

@@ -1,0 +1,6 @@
+-- `tagged`: the tag is the first part. Assumes nothing.
+use borrow.Author.Rules.{rules}
+use Rattle.hashing.proofs.tagged.Goals as goal
+
+pub returns : goal.returns
+returns c = c.absorb_byte.ensures.holds c.new.ensures

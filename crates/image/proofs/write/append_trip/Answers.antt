@@ -1,0 +1,9 @@
+-- `image::write::append_trip` meets its contract: three numbers. Assumes nothing.
+use Rattle.image.proofs.ImageLaws.{trip_appended, trip_fits}
+use borrow.Author.Rules.{rules}
+use Rattle.image.proofs.write.append_trip.Goals as goal
+
+pub returns : goal.returns
+returns c =
+    let t = c.args.t in
+    let put = c.append_words.ensures in record { appended = trip_appended t c.kind_of-kind.ensures c.type_size.ensures put.0; trip_fits = trip_fits t c.type_size.ensures put.1.1 put.1.2 }

@@ -1,0 +1,21 @@
+-- `image::write::write_profile` meets its contract: the parts fill the image. Assumes nothing.
+use Rattle.image.specs.Image.{Fits}
+use Rattle.image.proofs.ImageLaws.{image_made, profile_written}
+use borrow.Author.Rules.{rules}
+use Rattle.image.proofs.write.write_profile.Goals as goal
+
+pub returns : goal.returns
+returns c =
+    let p = c.args.p in
+    let numbers = c.append_words-trips.ensures in
+    let points = c.append_trips.ensures in
+    let made = image_made p c.requires.out_len c.append_head-ratings.ensures numbers.0 points.0 in
+    let fits : Fits p =
+    record {
+      serial = numbers.1.0;
+      volts = numbers.1.1;
+      hertz = numbers.1.2;
+      trips = points.1;
+      kinds = c.requires.p_value;
+    } in
+    profile_written p made fits

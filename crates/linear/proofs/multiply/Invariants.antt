@@ -1,0 +1,20 @@
+-- `multiply`: after i places the buffer holds the first i places of the result. Assumes nothing.
+use mathlib.Core.Path.{◌≡◌, ◌∙◌, refl}
+use Prim.Native.Nat.{ℕ, ◌≤◌, ◌-◌}
+use native.Mathlib.Omega.{arith}
+use mathlib.Core.List.{List}
+use lib.ListN.{length, get_or}
+use Rattle.packing.proofs.Below.{below, below_at}
+use Rattle.linear.proofs.Loops.{zipped, zipped_none, zipped_end, length_held, zipped_store, map_zip}
+use Rattle.linear.proofs.Steps.{multiples_multiplied}
+use Rattle.linear.proofs.multiply.Given as goal
+
+-- what the seven products hold at an exponent
+abbrev pub looked_up : List ℕ → ℕ → ℕ → ℕ
+looked_up products e y = get_or products e 0
+
+abbrev pub invariant-loop-i : goal.invariant-loop-i
+invariant-loop-i l = (l.i ≤ length l.es) × (l.out ≡ zipped (looked_up l.products) l.es l.es l.initial.out l.i)
+
+abbrev pub decreases-loop-i : goal.decreases-loop-i
+decreases-loop-i l = length l.es - l.i

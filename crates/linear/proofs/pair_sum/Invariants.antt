@@ -1,0 +1,20 @@
+-- `pair_sum`: the sum so far and the sums of what is left make the whole, modulo 127. Assumes nothing.
+use mathlib.Core.Path.{◌≡◌, ◌∙◌, ap, sym}
+use Prim.Native.Nat.{ℕ, ◌≤◌, ◌-◌, ◌+◌, ◌*◌, ◌%◌}
+use native.Mathlib.Omega.{arith}
+use mathlib.Core.List.{List}
+use lib.ListN.{drop, get_or}
+use Rattle.linear.specs.Linear.{dot}
+use Rattle.linear.proofs.Rows.{dot_more, dot_end, product_of, pair_low, pair_bound, pair_step}
+use Rattle.linear.proofs.pair_sum.Given as goal
+
+-- what is left of both sums from place i on
+abbrev pub left : List ℕ → List ℕ → List ℕ → List ℕ → ℕ → ℕ
+left a x b y i = dot (drop i a) (drop i x) + dot (drop i b) (drop i y)
+
+abbrev pub invariant-loop-i : goal.invariant-loop-i
+invariant-loop-i l =
+    (l.i ≤ l.h) × (l.sum ≤ l.i * 375) × ((l.sum + left l.a l.x l.b l.y l.i) % 127 ≡ (dot l.a l.x + dot l.b l.y) % 127)
+
+abbrev pub decreases-loop-i : goal.decreases-loop-i
+decreases-loop-i l = l.h - l.i

@@ -1,0 +1,22 @@
+-- `packing::see_groups` meets its contract. The loop's invariant: the fields of g groups are seen. The measure is how
+use mathlib.Core.Path.{◌≡◌, sym}
+use Prim.Native.Nat.{◌+◌, ◌-◌, ◌*◌, ◌^◌, ◌<◌, ◌≤◌}
+use native.Mathlib.Nat.{zero-mul}
+use native.Mathlib.Omega.{arith}
+use lib.Dec.{ltb}
+use lib.ListN.{length}
+use Rattle.packing.specs.Packing.{number, digits, all_below}
+use Rattle.packing.proofs.Below.{bytes_below, below_test}
+use Rattle.packing.proofs.Groups.{group_fits}
+use Rattle.packing.proofs.Seen.{see_group, see_no_group}
+use Rattle.packing.proofs.see_groups.Given as goal
+
+abbrev pub invariant-loop-g : goal.invariant-loop-g
+invariant-loop-g l =
+    (l.g ≤ l.groups)
+    × (l.i ≡ l.g * l.w)
+    × (l.seen < 512)
+    × (ltb l.seen (2 ^ l.w) ≡ all_below (2 ^ l.w - 1) (digits l.w (l.g * 8) (number 8 l.packed)))
+
+abbrev pub decreases-loop-g : goal.decreases-loop-g
+decreases-loop-g l = l.groups - l.g

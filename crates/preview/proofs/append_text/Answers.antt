@@ -1,0 +1,22 @@
+-- `preview::append_text` meets its contract. Assumes nothing.
+use mathlib.Core.Path.{sym}
+use native.Mathlib.Omega.{arith}
+use lib.ListN.{length}
+use lib.Seq.{length-take-le}
+use Rattle.preview.proofs.RowLaws.{put_front}
+use borrow.Author.Rules.{rules}
+use Rattle.preview.proofs.append_text.Goals as goal
+
+pub slice_bounds-copy-end-2 : goal.slice_bounds-copy-end-2
+slice_bounds-copy-end-2 c =
+    sym (length-take-le (length c.args.text.now) c.args.out.now (omega (arith, c.requires.room)))
+
+pub copy-requires : goal.copy-requires
+copy-requires c =
+    length-take-le (length c.args.text.now) c.args.out.now (omega (arith, c.requires.room))
+
+pub returns : goal.returns
+returns c =
+    let copy = c.copy in
+    put_front c.args.out.now copy.new.to c.args.text.now copy.ensures
+    (omega (arith, c.requires.room))

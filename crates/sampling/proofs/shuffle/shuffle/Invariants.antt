@@ -1,0 +1,22 @@
+-- `shuffle::shuffle`: after each field, what is left of the block leads from the positions to the second challenge.
+use mathlib.Core.Path.{◌≡◌, refl, ◌∙◌, sym, ap}
+use mathlib.Core.List.{[], ◌∷◌}
+use Prim.Native.Nat.{ℕ, ◌+◌, ◌-◌, ◌≤◌, ◌<◌}
+use native.Mathlib.Omega.{arith}
+use borrow.Author.Rules.{rules}
+use lib.ListN.{length, drop, length-drop}
+use Rattle.packing.proofs.Below.{Below, below_index}
+use Rattle.sampling.specs.Sampling.{fields}
+use Rattle.sampling.proofs.Fields.{fields_16, fields_none}
+use Rattle.sampling.proofs.Steps.{Leads, starts, step, ends, runs_short, next_le}
+use Rattle.sampling.proofs.shuffle.shuffle.Given as goal
+
+abbrev pub invariant-loop-j : goal.invariant-loop-j
+invariant-loop-j l =
+    (l.at ≤ length l.block) ×
+    (l.j < length l.positions) ×
+    (length l.positions ≡ length l.initial.positions) ×
+    Leads (length l.initial.positions) l.w l.block (fields 16 (drop l.at l.block)) l.j l.positions
+
+abbrev pub decreases-loop-j : goal.decreases-loop-j
+decreases-loop-j l = length l.block - l.at

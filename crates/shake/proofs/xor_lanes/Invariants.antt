@@ -1,0 +1,18 @@
+-- `xor_lanes` meets its contract. The invariant: what is left of the part, put into the state as it is, gives the whole.
+use mathlib.Core.Path.{◌≡◌, refl, ◌∙◌, sym, ap}
+use mathlib.Core.List.{List}
+use Prim.Native.Nat.{ℕ, ◌+◌, ◌-◌, ◌%◌, ◌≤◌}
+use native.Mathlib.Nat.{add-zero}
+use native.Mathlib.Omega.{arith}
+use lib.ListN.{length, take, drop}
+use lib.Seq.{drop-length}
+use Rattle.shake.specs.InnerFold.{xor_bytes}
+use Rattle.shake.proofs.Lanes.{xor_bytes_cut, length_cut}
+use Rattle.shake.proofs.xor_lanes.Given as goal
+
+abbrev pub invariant-loop-i : goal.invariant-loop-i
+invariant-loop-i l =
+    (l.i ≤ l.n) × (l.n ≡ length l.part) × (l.i % 8 ≡ 0) × (xor_bytes l.lanes (l.at + l.i) (drop l.i l.part) ≡ xor_bytes l.initial.lanes l.at l.part)
+
+abbrev pub decreases-loop-i : goal.decreases-loop-i
+decreases-loop-i l = l.n - l.i
