@@ -36,9 +36,10 @@ pub write_decimal-end-requires : goal.write_decimal-end-requires
 write_decimal-end-requires c =
     record { room = omega (arith, key_length c.args.p, c.requires.room, appended_length (letters-put c)) }
 
-pub returns : goal.returns
-returns c =
-    key_put c.args.p (letters-put (goal.at.returns c).After-write_decimal-arg-1) c.write_decimal-end.ensures
+key : goal.returns
+key c =
+    let lettered = c.before.before.before in
+    key_put (start lettered).args.p (letters-put lettered) c.before.before.write_decimal-end.ensures
 
 pub bounds-out-end : goal.bounds-out-end
 bounds-out-end c =

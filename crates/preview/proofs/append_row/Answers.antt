@@ -13,10 +13,11 @@ write_decimal-end-requires c =
     let key = c.append_key-serial.ensures in
     record { room = omega (arith, c.requires.room, row_length c.args.p, key.place, appended_length key) }
 
-pub returns : goal.returns
-returns c =
-    row_put c.args.p c.append_key-serial.ensures
-    c.write_decimal-end.ensures
+row : goal.returns
+row c =
+    let keyed = c.before.before.before in
+    row_put (start keyed).args.p keyed.before.before.before.append_key-serial.ensures
+    c.before.before.write_decimal-end.ensures
 
 pub bounds-out-end : goal.bounds-out-end
 bounds-out-end c =

@@ -88,11 +88,13 @@ write_decimal-requires-2 c =
     (record { room = simp length-set (omega (arith, c.requires.room.room)) })
 
 -- the minus, then the digits
-pub returns : goal.returns
-returns c =
-    appended_as (sym (signed (goal.at.returns c).Else-z-ge0))
-    (then (one_byte c.args.out.now c.args.at minus (c.args.at + 1) refl)
-    (rw (opposite-as-it-is (goal.at.returns c).Else-z-ge0) at c.write_decimal-2.ensures))
+minus_put : goal.returns
+minus_put c =
+    let branch = c.before.before.before.before in
+    let start = branch.before.before in
+    appended_as (sym (signed branch))
+    (then (one_byte start.args.out.now start.args.at minus (start.args.at + 1) refl)
+    (rw (opposite-as-it-is branch) at c.before.before.write_decimal-2.ensures))
 
 pub shape_of-out : goal.shape_of-out
 shape_of-out c = appended_length (minus_put c)

@@ -18,7 +18,7 @@ unfolding obeys
 returns-then-not-within c =
     let a = c.args in
     let kind = eq-eqb (kind_of a.t.limit) a.kind (sym c.kind_of.ensures ∙ c.if-kind_of-kind.false) in
-    let limit = rw c.type_size.ensures at (failing c.within.ensures c.if-not-within.true-raw) in
+    let limit = rw c.size_of.ensures at (failing c.within.ensures c.if-not-within.true-raw) in
     rw (kind, limit)
 
 pub returns : goal.returns
@@ -27,5 +27,5 @@ returns c =
     let a = c.args in
     let kind = eq-eqb (kind_of a.t.limit) a.kind (sym c.kind_of.ensures ∙ c.if-kind_of-kind.false) in
     let limit =
-    rw c.type_size.ensures at (passing c.within.ensures c.if-not-within.false-raw) in
+    rw c.size_of.ensures at (passing c.within.ensures c.if-not-within.false-raw) in
     rw (kind, limit) (simp (or-false, and-true) c.within-2.ensures)

@@ -10,15 +10,17 @@ use Rattle.profile.proofs.write.append_field.Goals as goal
 place : (c : Start) → c.args.at + 2 ≤ length c.args.out.now
 place c = field_place c.args.out.now c.args.at c.args.kind c.args.size c.requires
 
-pub returns-then-kind-eq-BELOW : goal.returns-then-kind-eq-BELOW
-returns-then-kind-eq-BELOW c =
-    let a = c.args in
-    put_below a.out.now a.at a.kind a.size c.if-kind-eq-BELOW.true c.write_decimal.ensures
+below_put : goal.returns-then-kind-eq-BELOW
+below_put c =
+    let branch = c.before.before.before.before in
+    let a = branch.before.before.args in
+    put_below a.out.now a.at a.kind a.size branch.if-kind-eq-BELOW.true c.before.before.write_decimal.ensures
 
-pub returns : goal.returns
-returns c =
-    let a = c.args in
-    put_other a.out.now a.at a.kind a.size c.if-kind-eq-BELOW.false c.write_decimal-2.ensures
+other-put : goal.returns
+other-put c =
+    let branch = c.before.before.before.before in
+    let a = branch.before.before.args in
+    put_other a.out.now a.at a.kind a.size branch.if-kind-eq-BELOW.false c.before.before.write_decimal-2.ensures
 
 pub bounds-out-at : goal.bounds-out-at
 bounds-out-at c = omega (arith, place (goal.at.bounds-out-at c).Start)

@@ -23,11 +23,14 @@ past_head p = written (take 3 (fields_of p)) ++ past-ratings p
 room : (c : Start) → Room c.args.out.now 0 (head_of c.args.p ++ past_head c.args.p)
 room c = room_as (line_bytes c.args.p) c.requires
 
-pub returns : goal.returns
-returns c =
-    let end = one_byte _ c.append_trips-end.result line_feed _ refl in
-    appended_as (sym (line_bytes c.args.p))
-    (then c.append_head-ratings.ensures (then c.append_ratings-trips.ensures (then c.append_trips-end.ensures end)))
+put : goal.returns
+put c =
+    let trips = c.before.before in
+    let ratings = trips.before.before.before.before in
+    let head = ratings.before.before.before.before in
+    let end = one_byte _ trips.append_trips-end.result line_feed _ refl in
+    appended_as (sym (line_bytes head.before.before.before.args.p))
+    (then head.append_head-ratings.ensures (then ratings.append_ratings-trips.ensures (then trips.append_trips-end.ensures end)))
 
 room_in_last : (c : After-slice_known-4-1) → Room c.args.out.now 0 (head_of c.args.p ++ past_head c.args.p)
 room_in_last c = room_as (line_bytes c.args.p) c.requires

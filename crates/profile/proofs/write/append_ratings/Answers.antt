@@ -20,10 +20,13 @@ past-serial p = field_bytes plain p.volts ++ hertz p
 room : (c : Start) → Room c.args.out.now c.args.at (field_bytes plain c.args.p.serial ++ past-serial c.args.p)
 room c = room_as (ratings_bytes c.args.p) c.requires
 
-pub returns : goal.returns
-returns c =
-    appended_as (sym (ratings_bytes c.args.p))
-    (then c.append_field-serial.ensures (then c.append_field-volts.ensures c.append_field.ensures))
+put : goal.returns
+put c =
+    let third = c.before.before in
+    let second = third.before.before.before.before in
+    let first = second.before.before.before.before in
+    appended_as (sym (ratings_bytes first.before.before.before.args.p))
+    (then first.append_field-serial.ensures (then second.append_field-volts.ensures third.append_field.ensures))
 
 pub append_field-serial-requires : goal.append_field-serial-requires
 append_field-serial-requires c =

@@ -27,12 +27,17 @@ from₂ p = written (trip_fields p.under_voltage) ++ from₃ p
 room : (c : Start) → Room c.args.out.now c.args.at (written (trip_fields c.args.p.over_voltage) ++ from₂ c.args.p)
 room c = room_as (trips_bytes c.args.p) c.requires
 
-pub returns : goal.returns
-returns c =
-    appended_as (sym (trips_bytes c.args.p))
-    (then c.append_trip-second.ensures
-    (then c.append_trip-third.ensures
-    (then c.append_trip-fourth.ensures (then c.append_trip-fifth.ensures c.append_rate.ensures))))
+put : goal.returns
+put c =
+    let fifth = c.before.before in
+    let fourth = fifth.before.before.before.before in
+    let third = fourth.before.before.before.before.before in
+    let second = third.before.before.before.before.before in
+    let first = second.before.before.before.before.before in
+    appended_as (sym (trips_bytes first.before.before.before.before.args.p))
+    (then first.append_trip-second.ensures
+    (then second.append_trip-third.ensures
+    (then third.append_trip-fourth.ensures (then fourth.append_trip-fifth.ensures fifth.append_rate.ensures))))
 
 pub append_trip-second-requires : goal.append_trip-second-requires
 append_trip-second-requires c =

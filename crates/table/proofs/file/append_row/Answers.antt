@@ -58,10 +58,12 @@ high-put : (c : After-write_decimal-end)
 high-put c =
     then (then (low-put_in_high-put c) (one_byte _ c.write_decimal-comma.result comma _ refl)) c.write_decimal-end.ensures
 
-pub returns : goal.returns
-returns c =
-    appended_as (whole (written (goal.at.returns c).Start))
-    (then (high-put (goal.at.returns c).After-write_decimal-end) (one_byte _ c.write_decimal-end.result line_feed _ refl))
+all_put : goal.returns
+all_put c =
+    let end = c.before.before in
+    let start = end.before.before.before.before.before.before.before in
+    appended_as (whole (written start))
+    (then (high-put end) (one_byte _ end.write_decimal-end.result line_feed _ refl))
 
 -- the buffer has room for all of it
 long : (c : Start)
