@@ -10,4 +10,4 @@ returns-in-Absent c =
 pub returns-in-Present : goal.returns-in-Present
 returns-in-Present c =
     let present = c.in-Present.is in
-    let put = c.append_words-in-Present.ensures in record { appended = present_appended _ present c.size_of.ensures put.0; rate_fits = present_fits _ present c.size_of.ensures put.1.1 put.1.2 }
+    let put = c.append_words-in-Present.ensures in record { appended = present_appended _ present c.size_of.ensures put.appended; rate_fits = present_fits _ present c.size_of.ensures put.small.1 put.small.2 }

@@ -26,4 +26,4 @@ returns c =
     let u = c.append_trip-third.ensures in
     let v = c.append_trip-fourth.ensures in
     let w = c.append_trip-fifth.ensures in
-    let x = c.append_rate.ensures in record { appended = then t.0 (then u.0 (then v.0 (then w.0 x.0))); trips_fit = (t.1, u.1, v.1, w.1, x.1) }
+    let x = c.append_rate.ensures in record { appended = then t.appended (then u.appended (then v.appended (then w.appended x.appended))); trips_fit = (t.trip_fits, u.trip_fits, v.trip_fits, w.trip_fits, x.rate_fits) }

@@ -9,13 +9,13 @@ returns c =
     let p = c.args.p in
     let numbers = c.append_words-trips.ensures in
     let points = c.append_trips.ensures in
-    let made = image_made p c.requires.out_len c.append_head-ratings.ensures numbers.0 points.0 in
+    let made = image_made p c.requires.out_len c.append_head-ratings.ensures numbers.appended points.appended in
     let fits : Fits p =
     record {
-      serial = numbers.1.0;
-      volts = numbers.1.1;
-      hertz = numbers.1.2;
-      trips = points.1;
+      serial = numbers.small.0;
+      volts = numbers.small.1;
+      hertz = numbers.small.2;
+      trips = points.trips_fit;
       kinds = c.requires.p_value;
     } in
     profile_written p made fits
