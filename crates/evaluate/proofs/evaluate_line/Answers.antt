@@ -64,8 +64,8 @@ returns-in_default c =
     let a = c.args in
     let refused = no_length c.rewrite.result c.in-Length.keys2 in
     let none = told_nothing _ c.rewrite.result refused c.rewrite.ensures in
-    no_sound a.table.now a.input.now a.out.now a.length.now c.if-table-ne-TABLE_SIZE.left
-    c.if-input-gt-LONGEST_INPUT.left c.if-out-ne-LONGEST.left
+    no_sound a.table.now a.input.now a.out.now a.length.now c.if-table-ne-TABLE_SIZE.false
+    c.if-input-gt-LONGEST_INPUT.false c.if-out-ne-LONGEST.false
     (closed (goal.at.returns-in_default c).After-rewrite)
     (sym (ap text_in (sound_text_lem 0 a.input.now)) ∙ none)
 
@@ -98,8 +98,8 @@ slice_bounds-read_line-end c =
 pub returns-in_default-read_line : goal.returns-in_default-read_line
 returns-in_default-read_line c =
     let a = c.args in
-    no_frame a.table.now a.input.now a.out.now a.length.now c.if-table-ne-TABLE_SIZE.left
-    c.if-input-gt-LONGEST_INPUT.left c.if-out-ne-LONGEST.left
+    no_frame a.table.now a.input.now a.out.now a.length.now c.if-table-ne-TABLE_SIZE.false
+    c.if-input-gt-LONGEST_INPUT.false c.if-out-ne-LONGEST.false
     (closed (goal.at.returns-in_default-read_line c).After-rewrite)
     (take (length-of (goal.at.returns-in_default-read_line c).In-Length-2) (bytes_of (goal.at.returns-in_default-read_line c).In-Length-2)) (stored (goal.at.returns-in_default-read_line c).In-Length-2).1
     (sym (ap is_read c.read_line.ensures) ∙ no_line c.read_line.result c.in-Read.keys2)
@@ -123,13 +123,13 @@ frame-read c = sym c.read_line.ensures ∙ ap read_answer c.in-Read.is
 
 pub finish-requires : goal.finish-requires
 finish-requires c =
-    let text = take (length-of (goal.at.finish-requires c).In-Length-2) (bytes_of (goal.at.finish-requires c).In-Length-2) in record { short = c.if-input-gt-LONGEST_INPUT.left; volts_le_most_volts = read_volts (table-of (goal.at.finish-requires c).In-Read-2) text (profile-of (goal.at.finish-requires c).In-Read-2) (frame-read (goal.at.finish-requires c).In-Read-2); lent = c.if-out-ne-LONGEST.left }
+    let text = take (length-of (goal.at.finish-requires c).In-Length-2) (bytes_of (goal.at.finish-requires c).In-Length-2) in record { short = c.if-input-gt-LONGEST_INPUT.false; volts_le_most_volts = read_volts (table-of (goal.at.finish-requires c).In-Read-2) text (profile-of (goal.at.finish-requires c).In-Read-2) (frame-read (goal.at.finish-requires c).In-Read-2); lent = c.if-out-ne-LONGEST.false }
 
 pub returns : goal.returns
 returns c =
     let a = c.args in
-    framed a.table.now a.input.now a.out.now a.length.now c.if-table-ne-TABLE_SIZE.left
-    c.if-input-gt-LONGEST_INPUT.left c.if-out-ne-LONGEST.left
+    framed a.table.now a.input.now a.out.now a.length.now c.if-table-ne-TABLE_SIZE.false
+    c.if-input-gt-LONGEST_INPUT.false c.if-out-ne-LONGEST.false
     (closed (goal.at.returns c).After-rewrite)
     (take (length-of (goal.at.returns c).In-Length-2) (bytes_of (goal.at.returns c).In-Length-2)) (profile-of (goal.at.returns c).In-Read-2) (stored (goal.at.returns c).In-Length-2).1 (frame-read (goal.at.returns c).In-Read-2)
     c.finish.ensures

@@ -104,7 +104,7 @@ returns-then-i-ge-CAPACITY c =
     let a = c.args in
     let none = sym (slot_nowhere _ a.store.now (omega arith)) ∙ found_here (goal.at.returns-then-i-ge-CAPACITY c).After-find_nearest-i in
     nothing_found (classes (goal.at.returns-then-i-ge-CAPACITY c).Start) a.store.now a.country.now a.out.now (exists (goal.at.returns-then-i-ge-CAPACITY c).Start) (suggested (goal.at.returns-then-i-ge-CAPACITY c).Start)
-    a.length.now c.if-country-ne2.left (measured (goal.at.returns-then-i-ge-CAPACITY c).Else-not-measured_ok) c.if-store-ne-STORE_SIZE.false
+    a.length.now c.if-country-ne2.false (measured (goal.at.returns-then-i-ge-CAPACITY c).Else-not-measured_ok) c.if-store-ne-STORE_SIZE.false
     c.if-out-ne-LONGEST.false none
 
 pub returns : goal.returns
@@ -114,5 +114,5 @@ returns c =
     let here = sym (slot_there _ a.store.now (omega arith)) ∙ found_here (goal.at.returns c).After-find_nearest-i in
     let it = ap (λ (p : Profile). done p) c.profile_at.ensures ∙ here in
     line_found (classes (goal.at.returns c).Start) a.store.now a.country.now a.out.now (exists (goal.at.returns c).Start) (suggested (goal.at.returns c).Start) a.length.now
-    c.if-country-ne2.left (measured (goal.at.returns c).Else-not-measured_ok) c.if-store-ne-STORE_SIZE.false c.if-out-ne-LONGEST.false _ it
+    c.if-country-ne2.false (measured (goal.at.returns c).Else-not-measured_ok) c.if-store-ne-STORE_SIZE.false c.if-out-ne-LONGEST.false _ it
     (by_store a.store.now _ c.write_profile_line.ensures)

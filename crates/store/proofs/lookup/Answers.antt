@@ -33,8 +33,8 @@ classes_in_answered c = classes_of c.args.store.now
 
 answered : (c : After-device_ok)
     → let a = c.args in
-    c.device_ok_lem.result ≡ device_ok (classes_in_answered c) (device_of a.country.now a.class a.hertz)
-answered c = c.device_ok_lem.ensures ∙ ap (device_ok (classes_in_answered c)) c.device_of-device.ensures
+    c.device_ok.result ≡ device_ok (classes_in_answered c) (device_of a.country.now a.class a.hertz)
+answered c = c.device_ok.ensures ∙ ap (device_ok (classes_in_answered c)) c.device_of-device.ensures
 
 abbrev classes_in_device-set : Else-not-device_ok → List Class
 classes_in_device-set c = classes_of c.args.store.now
@@ -44,8 +44,8 @@ classes_in_answered_in_device-set c = classes_of c.args.store.now
 
 answered_in_device-set : (c : Else-not-device_ok)
     → let a = c.args in
-    c.device_ok_lem.result ≡ device_ok (classes_in_answered_in_device-set c) (device_of a.country.now a.class a.hertz)
-answered_in_device-set c = c.device_ok_lem.ensures ∙ ap (device_ok (classes_in_answered_in_device-set c)) c.device_of-device.ensures
+    c.device_ok.result ≡ device_ok (classes_in_answered_in_device-set c) (device_of a.country.now a.class a.hertz)
+answered_in_device-set c = c.device_ok.ensures ∙ ap (device_ok (classes_in_answered_in_device-set c)) c.device_of-device.ensures
 
 device-set : (c : Else-not-device_ok)
     → let a = c.args in
@@ -94,7 +94,7 @@ returns-then-i-ge-CAPACITY c =
     let d = device_of a.country.now a.class a.hertz in
     let none = found_none (classes (goal.at.returns-then-i-ge-CAPACITY c).Start) a.store.now d _ (device-set (goal.at.returns-then-i-ge-CAPACITY c).Else-not-device_ok) (first (goal.at.returns-then-i-ge-CAPACITY c).After-find_key-i) (omega arith) in
     nothing_found (classes (goal.at.returns-then-i-ge-CAPACITY c).Start) a.store.now a.country.now a.out.now (exists (goal.at.returns-then-i-ge-CAPACITY c).Start) (found-by (goal.at.returns-then-i-ge-CAPACITY c).Start)
-    a.length.now c.if-country-ne2.left (device-set (goal.at.returns-then-i-ge-CAPACITY c).Else-not-device_ok) c.if-store-ne-STORE_SIZE.false
+    a.length.now c.if-country-ne2.false (device-set (goal.at.returns-then-i-ge-CAPACITY c).Else-not-device_ok) c.if-store-ne-STORE_SIZE.false
     c.if-out-ne-LONGEST.false none
 
 pub returns : goal.returns
@@ -105,5 +105,5 @@ returns c =
     let here = found_here (classes (goal.at.returns c).Start) a.store.now d _ (device-set (goal.at.returns c).Else-not-device_ok) (first (goal.at.returns c).After-find_key-i) (omega arith) in
     let it = ap (λ (p : Profile). done p) c.profile_at.ensures ∙ here in
     line_found (classes (goal.at.returns c).Start) a.store.now a.country.now a.out.now (exists (goal.at.returns c).Start) (found-by (goal.at.returns c).Start) a.length.now
-    c.if-country-ne2.left (device-set (goal.at.returns c).Else-not-device_ok) c.if-store-ne-STORE_SIZE.false c.if-out-ne-LONGEST.false _ it
+    c.if-country-ne2.false (device-set (goal.at.returns c).Else-not-device_ok) c.if-store-ne-STORE_SIZE.false c.if-out-ne-LONGEST.false _ it
     (by_store a.store.now _ c.write_profile_line.ensures)

@@ -26,8 +26,8 @@ classes_in_answered c = classes_of c.args.store.now
 -- whether the device is set to a country, class and hertz
 answered : (c : After-device_ok) →
     let a = c.args in
-    c.device_ok_lem.result ≡ device_ok (classes_in_answered c) (device_of a.country.now a.class a.hertz)
-answered c = c.device_ok_lem.ensures ∙ ap (device_ok (classes_in_answered c)) c.device_of-device.ensures
+    c.device_ok.result ≡ device_ok (classes_in_answered c) (device_of a.country.now a.class a.hertz)
+answered c = c.device_ok.ensures ∙ ap (device_ok (classes_in_answered c)) c.device_of-device.ensures
 
 abbrev classes_in_set : Else-not-device_ok → List Class
 classes_in_set c = classes_of c.args.store.now
@@ -37,8 +37,8 @@ classes_in_answered_in_set c = classes_of c.args.store.now
 
 answered_in_set : (c : Else-not-device_ok) →
     let a = c.args in
-    c.device_ok_lem.result ≡ device_ok (classes_in_answered_in_set c) (device_of a.country.now a.class a.hertz)
-answered_in_set c = c.device_ok_lem.ensures ∙ ap (device_ok (classes_in_answered_in_set c)) c.device_of-device.ensures
+    c.device_ok.result ≡ device_ok (classes_in_answered_in_set c) (device_of a.country.now a.class a.hertz)
+answered_in_set c = c.device_ok.ensures ∙ ap (device_ok (classes_in_answered_in_set c)) c.device_of-device.ensures
 
 set : (c : Else-not-device_ok) →
     let a = c.args in
@@ -70,22 +70,22 @@ pub returns-then-not-device_ok : goal.returns-then-not-device_ok
 returns-then-not-device_ok c =
     let a = c.args in
     load_device a.p (classes (goal.at.returns-then-not-device_ok c).Else-country-ne2) a.key.now a.sealed.now a.country.now a.class a.hertz a.store.now
-    c.if-country-ne2.left
+    c.if-country-ne2.false
     (sym (answered (goal.at.returns-then-not-device_ok c).After-device_ok) ∙ c.if-not-device_ok.true)
 
 pub returns-then-store-ne-STORE_SIZE : goal.returns-then-store-ne-STORE_SIZE
 returns-then-store-ne-STORE_SIZE c =
     let a = c.args in
     load_size a.p (classes (goal.at.returns-then-store-ne-STORE_SIZE c).Else-country-ne2) a.key.now a.sealed.now a.country.now a.class a.hertz a.store.now
-    c.if-country-ne2.left
+    c.if-country-ne2.false
     (set (goal.at.returns-then-store-ne-STORE_SIZE c).Else-not-device_ok) c.if-store-ne-STORE_SIZE.true
 
 pub returns-in-Profile : goal.returns-in-Profile
 returns-in-Profile c =
     let a = c.args in
     load_put a.p (classes (goal.at.returns-in-Profile c).Else-country-ne2) a.key.now a.sealed.now a.country.now a.class a.hertz a.store.now
-    c.if-country-ne2.left
-    (set (goal.at.returns-in-Profile c).Else-not-device_ok) c.if-store-ne-STORE_SIZE.left _ c.device_of-device.ensures
+    c.if-country-ne2.false
+    (set (goal.at.returns-in-Profile c).Else-not-device_ok) c.if-store-ne-STORE_SIZE.false _ c.device_of-device.ensures
     (opens_by (goal.at.returns-in-Profile c).After-open _ c.in-Profile.is)
     c.put.ensures
 
@@ -93,5 +93,5 @@ pub returns-in-Refused : goal.returns-in-Refused
 returns-in-Refused c =
     let a = c.args in
     load_refused a.p (classes (goal.at.returns-in-Refused c).Else-country-ne2) a.key.now a.sealed.now a.country.now a.class a.hertz a.store.now
-    c.if-country-ne2.left
-    (set (goal.at.returns-in-Refused c).Else-not-device_ok) c.if-store-ne-STORE_SIZE.left (opens_by (goal.at.returns-in-Refused c).After-open _ c.in-Refused.is)
+    c.if-country-ne2.false
+    (set (goal.at.returns-in-Refused c).Else-not-device_ok) c.if-store-ne-STORE_SIZE.false (opens_by (goal.at.returns-in-Refused c).After-open _ c.in-Refused.is)

@@ -32,7 +32,7 @@ seal-requires c =
     let a = c.args in record {
       sign_scratch = c.requires;
       room = read_room a.p a.table.now a.private.now a.master.now a.salt.now a.line.now a.out.now
-          a.length.now sized.result sized.ensures c.if-refusal-ne0.left _ (read (goal.at.seal-requires c).In-Read-2);
+          a.length.now sized.result sized.ensures c.if-refusal-ne0.false _ (read (goal.at.seal-requires c).In-Read-2);
     }
 
 pub returns-in-Read : goal.returns-in-Read
@@ -40,14 +40,14 @@ returns-in-Read c =
     let sized = c.check_make-refusal in
     let a = c.args in
     make_line_sealed a.p a.table.now a.private.now a.master.now a.salt.now a.line.now a.out.now
-    a.length.now sized.result sized.ensures c.if-refusal-ne0.left _ (read (goal.at.returns-in-Read c).In-Read-2) c.seal.ensures
+    a.length.now sized.result sized.ensures c.if-refusal-ne0.false _ (read (goal.at.returns-in-Read c).In-Read-2) c.seal.ensures
 
 pub returns-in-BadSize : goal.returns-in-BadSize
 returns-in-BadSize c =
     let sized = c.check_make-refusal in
     let a = c.args in
     make_line_short a.p a.table.now a.private.now a.master.now a.salt.now a.line.now a.out.now
-    a.length.now sized.result sized.ensures c.if-refusal-ne0.left
+    a.length.now sized.result sized.ensures c.if-refusal-ne0.false
     (sym (ap read_answer c.in-BadSize.is) ∙ c.read_line.ensures)
 
 pub returns-in-BadLine : goal.returns-in-BadLine
@@ -55,5 +55,5 @@ returns-in-BadLine c =
     let sized = c.check_make-refusal in
     let a = c.args in
     make_line_broken a.p a.table.now a.private.now a.master.now a.salt.now a.line.now a.out.now
-    a.length.now sized.result sized.ensures c.if-refusal-ne0.left
+    a.length.now sized.result sized.ensures c.if-refusal-ne0.false
     (sym (ap read_answer c.in-BadLine.is) ∙ c.read_line.ensures)

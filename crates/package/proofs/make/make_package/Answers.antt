@@ -68,7 +68,7 @@ seal-requires c =
       sign_scratch = c.requires;
       room = front_room a.p a.table.now a.private.now a.master.now a.salt.now a.profile a.out.now
           a.length.now
-          sized.result sized.ensures c.if-refusal-ne0.left _ bytes c.write_line.kept.1.1.0
+          sized.result sized.ensures c.if-refusal-ne0.false _ bytes c.write_line.kept.1.1.0
           (array-share-prefix-line c);
     }
 
@@ -78,7 +78,7 @@ returns-in-Written c =
     let a = c.args in
     make_sealed a.p a.table.now a.private.now a.master.now a.salt.now a.profile a.out.now
     a.length.now
-    sized.result sized.ensures c.if-refusal-ne0.left c.write_line.last.1.1.0 c.in-Written.n
+    sized.result sized.ensures c.if-refusal-ne0.false c.write_line.last.1.1.0 c.in-Written.n
     (written (goal.at.returns-in-Written c).In-Written-2) c.seal.ensures
 
 pub returns-in-BadSize : goal.returns-in-BadSize
@@ -93,5 +93,5 @@ returns-in-BadProfile c =
     let a = c.args in
     make_broken a.p a.table.now a.private.now a.master.now a.salt.now a.profile a.out.now
     a.length.now
-    sized.result sized.ensures c.if-refusal-ne0.left c.write_line.new.out
+    sized.result sized.ensures c.if-refusal-ne0.false c.write_line.new.out
     (answered (goal.at.returns-in-BadProfile c).After-write_line BadProfile c.in-BadProfile.is)

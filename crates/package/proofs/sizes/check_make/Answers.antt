@@ -37,7 +37,7 @@ pub returns-then-master-p : goal.returns-then-master-p
 returns-then-master-p c =
     let a = c.args in
     rw (
-      eq-eqb (length a.table.now) table_size c.if-table-ne-TABLE_SIZE.left,
+      eq-eqb (length a.table.now) table_size c.if-table-ne-TABLE_SIZE.false,
       eq-eqb (length a.private.now) a.p.digest c.if-private-p.false,
       ne_eqb (length a.master.now) a.p.seed c.if-master-p.true,
     )
@@ -47,8 +47,8 @@ pub returns-then-salt-p : goal.returns-then-salt-p
 returns-then-salt-p c =
     let a = c.args in
     rw (
-      eq-eqb (length a.table.now) table_size c.if-table-ne-TABLE_SIZE.left,
-      eq-eqb (length a.private.now) a.p.digest c.if-private-p.left,
+      eq-eqb (length a.table.now) table_size c.if-table-ne-TABLE_SIZE.false,
+      eq-eqb (length a.private.now) a.p.digest c.if-private-p.false,
       eq-eqb (length a.master.now) a.p.seed c.if-master-p.false,
       ne_eqb (length a.salt.now) a.p.digest c.if-salt-p.true,
     )
@@ -62,10 +62,10 @@ pub returns-then-lent-signature_size : goal.returns-then-lent-signature_size
 returns-then-lent-signature_size c =
     let a = c.args in
     rw (
-      eq-eqb (length a.table.now) table_size c.if-table-ne-TABLE_SIZE.left,
-      eq-eqb (length a.private.now) a.p.digest c.if-private-p.left,
-      eq-eqb (length a.master.now) a.p.seed c.if-master-p.left,
-      eq-eqb (length a.salt.now) a.p.digest c.if-salt-p.left,
+      eq-eqb (length a.table.now) table_size c.if-table-ne-TABLE_SIZE.false,
+      eq-eqb (length a.private.now) a.p.digest c.if-private-p.false,
+      eq-eqb (length a.master.now) a.p.seed c.if-master-p.false,
+      eq-eqb (length a.salt.now) a.p.digest c.if-salt-p.false,
       ne_eqb a.lent (package_max a.p) (λ e. c.if-lent-signature_size.true (e ∙ sym (max (goal.at.returns-then-lent-signature_size c).After-signature_size))),
     )
     refl
@@ -74,10 +74,10 @@ pub returns : goal.returns
 returns c =
     let a = c.args in
     rw (
-      eq-eqb (length a.table.now) table_size c.if-table-ne-TABLE_SIZE.left,
-      eq-eqb (length a.private.now) a.p.digest c.if-private-p.left,
-      eq-eqb (length a.master.now) a.p.seed c.if-master-p.left,
-      eq-eqb (length a.salt.now) a.p.digest c.if-salt-p.left,
+      eq-eqb (length a.table.now) table_size c.if-table-ne-TABLE_SIZE.false,
+      eq-eqb (length a.private.now) a.p.digest c.if-private-p.false,
+      eq-eqb (length a.master.now) a.p.seed c.if-master-p.false,
+      eq-eqb (length a.salt.now) a.p.digest c.if-salt-p.false,
       eq-eqb a.lent (package_max a.p) (c.if-lent-signature_size.false ∙ max (goal.at.returns c).After-signature_size),
     )
     refl

@@ -32,33 +32,18 @@ seeds-are c =
     let a = c.args in
     c.hash2.ensures ∙ ap (λ (n : ℕ). shake a.p.rate (9 ∷ a.master.now ++ a.salt.now) n) c.requires.seeds_len.0
 
--- the round's seeds among them
-seed : (c : After-hash2) → ℕ → List ℕ
-seed c = seed_at c.args.p
-    c.hash2.new.out
-
-seed_in_drawn : (c : Else-not-commit_all) → ℕ → List ℕ
-seed_in_drawn c = seed_at c.args.p
-    c.hash2.new.out
-
 -- all rounds are drawn, and their states are there
 drawn : (c : Else-not-commit_all) →
     let a = c.args in
-    first_refusal (seed_draws a.p (seed_in_drawn c) a.salt.now) ≡ 0
-unfolding seed
+    first_refusal (seed_draws a.p (seed_at c.args.p c.hash2.new.out) a.salt.now) ≡ 0
 drawn c =
     c.commit_all.ensures.answer ∙ ap (λ (ok : Bool). pick ok 0 2)
     (not-false c.commit_all.result c.if-not-commit_all.false-raw)
 
-seed_in_states-are : (c : Else-not-commit_all) → ℕ → List ℕ
-seed_in_states-are c = seed_at c.args.p
-    c.hash2.new.out
-
 states-are : (c : Else-not-commit_all) →
     let a = c.args in
     c.commit_all.new.states
-    ≡ flat (round_state a.p a.vs.now a.key.now (seed_in_states-are c) a.salt.now) a.p.t
-unfolding seed
+    ≡ flat (round_state a.p a.vs.now a.key.now (seed_at c.args.p c.hash2.new.out) a.salt.now) a.p.t
 states-are c =
     c.commit_all.ensures.content (not-false c.commit_all.result c.if-not-commit_all.false-raw)
 
@@ -67,31 +52,17 @@ root-lent : (c : After-aggregate_states) →
 root-lent c =
     record { fits = c.requires.sound.0.digest_fits; kept = c.aggregate_states.auto.root }
 
-seed_in_root-held : (c : After-join_states) → ℕ → List ℕ
-seed_in_root-held c = seed_at c.args.p
-    c.hash2.new.out
-
-seed_in_drawn_in_root-held : (c : After-join_states) → ℕ → List ℕ
-seed_in_drawn_in_root-held c = seed_at c.args.p
-    c.hash2.new.out
-
 drawn_in_root-held : (c : After-join_states) →
     let a = c.args in
-    first_refusal (seed_draws a.p (seed_in_drawn_in_root-held c) a.salt.now) ≡ 0
-unfolding seed
+    first_refusal (seed_draws a.p (seed_at c.args.p c.hash2.new.out) a.salt.now) ≡ 0
 drawn_in_root-held c =
     c.commit_all.ensures.answer ∙ ap (λ (ok : Bool). pick ok 0 2)
     (not-false c.commit_all.result c.if-not-commit_all.false-raw)
 
-seed_in_states-are_in_root-held : (c : After-join_states) → ℕ → List ℕ
-seed_in_states-are_in_root-held c = seed_at c.args.p
-    c.hash2.new.out
-
 states-are_in_root-held : (c : After-join_states) →
     let a = c.args in
     c.commit_all.new.states
-    ≡ flat (round_state a.p a.vs.now a.key.now (seed_in_states-are_in_root-held c) a.salt.now) a.p.t
-unfolding seed
+    ≡ flat (round_state a.p a.vs.now a.key.now (seed_at c.args.p c.hash2.new.out) a.salt.now) a.p.t
 states-are_in_root-held c =
     c.commit_all.ensures.content (not-false c.commit_all.result c.if-not-commit_all.false-raw)
 
@@ -104,13 +75,13 @@ root-lent_in_root-held c =
 root-held : (c : After-join_states) →
     let a = c.args in
     take a.p.digest (c.aggregate_states.new.root ++ drop a.p.digest (replicate 64 0))
-    ≡ sign.c0_of_all a.p a.vs.now a.key.now (seed_in_root-held c) a.salt.now
+    ≡ sign.c0_of_all a.p a.vs.now a.key.now (seed_at c.args.p c.hash2.new.out) a.salt.now
 root-held c =
     let a = c.args in
     let made = c.aggregate_states in
     lent_part (root-lent_in_root-held c)
     ∙ made.ensures
-    ∙ root_is a.p c.requires.sound.0 a.vs.now a.key.now (seed_in_root-held c) a.salt.now (drawn_in_root-held c)
+    ∙ root_is a.p c.requires.sound.0 a.vs.now a.key.now (seed_at c.args.p c.hash2.new.out) a.salt.now (drawn_in_root-held c)
     (states-are_in_root-held c)
 
 c-lent : (c : After-join_states) →
@@ -118,31 +89,17 @@ c-lent : (c : After-join_states) →
 c-lent c =
     record { fits = c.requires.sound.0.digest_fits; kept = c.join_states.auto.c }
 
-seed_in_c-held : (c : After-join_states) → ℕ → List ℕ
-seed_in_c-held c = seed_at c.args.p
-    c.hash2.new.out
-
-seed_in_drawn_in_c-held : (c : After-join_states) → ℕ → List ℕ
-seed_in_drawn_in_c-held c = seed_at c.args.p
-    c.hash2.new.out
-
 drawn_in_c-held : (c : After-join_states) →
     let a = c.args in
-    first_refusal (seed_draws a.p (seed_in_drawn_in_c-held c) a.salt.now) ≡ 0
-unfolding seed
+    first_refusal (seed_draws a.p (seed_at c.args.p c.hash2.new.out) a.salt.now) ≡ 0
 drawn_in_c-held c =
     c.commit_all.ensures.answer ∙ ap (λ (ok : Bool). pick ok 0 2)
     (not-false c.commit_all.result c.if-not-commit_all.false-raw)
 
-seed_in_states-are_in_c-held : (c : After-join_states) → ℕ → List ℕ
-seed_in_states-are_in_c-held c = seed_at c.args.p
-    c.hash2.new.out
-
 states-are_in_c-held : (c : After-join_states) →
     let a = c.args in
     c.commit_all.new.states
-    ≡ flat (round_state a.p a.vs.now a.key.now (seed_in_states-are_in_c-held c) a.salt.now) a.p.t
-unfolding seed
+    ≡ flat (round_state a.p a.vs.now a.key.now (seed_at c.args.p c.hash2.new.out) a.salt.now) a.p.t
 states-are_in_c-held c =
     c.commit_all.ensures.content (not-false c.commit_all.result c.if-not-commit_all.false-raw)
 
@@ -150,8 +107,8 @@ states-are_in_c-held c =
 c-held : (c : After-join_states) →
     let a = c.args in
     take a.p.digest (c.join_states.new.c ++ drop a.p.digest (replicate 64 0))
-    ≡ sign.c a.p (seed_in_c-held c) a.salt.now
-    (sign.c0_of_all a.p a.vs.now a.key.now (seed_in_c-held c) a.salt.now)
+    ≡ sign.c a.p (seed_at c.args.p c.hash2.new.out) a.salt.now
+    (sign.c0_of_all a.p a.vs.now a.key.now (seed_at c.args.p c.hash2.new.out) a.salt.now)
 c-held c =
     let a = c.args in
     let made = c.join_states in
@@ -159,7 +116,7 @@ c-held c =
     lent_part (c-lent c)
     ∙ made.ensures
     ∙ (λ i. joined a.p (root i) (c1s a.p c.commit_all.new.states))
-    ∙ c_is a.p c.requires.sound.0 a.vs.now a.key.now (seed_in_c-held c) a.salt.now (drawn_in_c-held c)
+    ∙ c_is a.p c.requires.sound.0 a.vs.now a.key.now (seed_at c.args.p c.hash2.new.out) a.salt.now (drawn_in_c-held c)
     (states-are_in_c-held c) _
 
 pub hash2-requires : goal.hash2-requires
@@ -177,7 +134,6 @@ commit_all-requires c = (
 )
 
 pub returns-then-not-commit_all : goal.returns-then-not-commit_all
-unfolding seed
 returns-then-not-commit_all c =
     let a = c.args in
     let made = c.commit_all in
@@ -227,7 +183,6 @@ first_challenges-requires c =
     (c.requires.sound.0, omega (arith, c.requires.sound.0.t_fits))
 
 pub returns-then-not-first_challenges : goal.returns-then-not-first_challenges
-unfolding seed
 returns-then-not-first_challenges c =
     let a = c.args in
     let got = c.first_challenges in
@@ -256,7 +211,6 @@ slice_bounds-reply-end-2 c =
     (omega (arith, c.first_challenges.auto.bs, c.requires.sound.0.t_fits)))
 
 pub reply-requires : goal.reply-requires
-unfolding seed
 reply-requires c =
     let a = c.args in
     let got = c.first_challenges in
@@ -265,7 +219,7 @@ reply-requires c =
         c.requires.sound.0,
         c.requires.sound.2,
         c.hash2.auto.out ∙ c.requires.seeds_len.0,
-        states_good a.p c.requires.sound.0 a.vs.now a.key.now (seed (goal.at.reply-requires c).After-hash2) a.salt.now (drawn (goal.at.reply-requires c).Else-not-commit_all)
+        states_good a.p c.requires.sound.0 a.vs.now a.key.now (seed_at a.p c.hash2.new.out) a.salt.now (drawn (goal.at.reply-requires c).Else-not-commit_all)
             (states-are (goal.at.reply-requires c).Else-not-commit_all),
         record {
           long = length-take-le _ _ (omega (arith, got.auto.bs, c.requires.sound.0.t_fits));
@@ -280,7 +234,6 @@ shape_of-seeds c =
     c.hash2.auto.out
 
 pub returns : goal.returns
-unfolding seed
 returns c =
     let a = c.args in
     let got = c.first_challenges in

@@ -50,7 +50,7 @@ part-inside c =
     let all : length c.args.parts.now ≡ total (sizes c) t = c.requires.bs_len.1 in
     let here : now.start ≡ total (sizes c) now.j = now.invariant.3 in
     let own : c.part_size.result ≡ sizes c now.j = c.part_size.ensures in
-    rw (here, own, all) (total_within (sizes c) now.j t c.loop-j-test.true)
+    omega (arith, here, own, all, total_within (sizes c) now.j t c.loop-j-test.true)
 
 pub bounds-bs-j : goal.bounds-bs-j
 bounds-bs-j c =

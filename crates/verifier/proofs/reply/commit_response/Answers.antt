@@ -25,7 +25,7 @@ slice_bounds-pack_values-end c = part_length c.packed_size-y.result (replicate 2
 pub pack_values-requires : goal.pack_values-requires
 pack_values-requires c = (
   c.requires.1.ranged,
-  sym (part_length c.packed_size-y.result (replicate 224 0) (fits (c)))
+  sym (part_length c.packed_size-y.result (replicate 224 0) (fits (goal.at.pack_values-requires c).After-packed_size-y))
       ∙ c.packed_size-y.ensures
       ∙ ap (λ (n : ℕ). size 7 n) (sym c.requires.1.long),
 )

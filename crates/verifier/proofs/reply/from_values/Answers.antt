@@ -207,8 +207,7 @@ reply_syndrome-requires c =
 fits_in_xs-lent : (c : After-reply_syndrome) → c.args.p.n - c.args.p.k ≤ 256
 fits_in_xs-lent c = omega (arith, c.requires.sound.0.n_fits)
 
-xs-lent : (c : After-reply_syndrome) → Lent (c.args.p.n - (entry-reply-syndrome
-    c).args.p.k) (replicate 256 0) c.reply_syndrome.new.out
+xs-lent : (c : After-reply_syndrome) → Lent (c.args.p.n - c.args.p.k) (replicate 256 0) c.reply_syndrome.new.out
 xs-lent c = record { fits = fits_in_xs-lent c; kept = c.reply_syndrome.auto.out }
 
 pub slice_bounds-xs-end-2 : goal.slice_bounds-xs-end-2
@@ -262,4 +261,4 @@ returns c =
     values_made a.p a.vs.now a.s.now a.round.beta.0 a.reply.now a.salt.now a.round.i
     (bytes_below a.reply.now c.type_inv.reply) (sized (goal.at.returns c).Start) (ys-read (goal.at.returns c).Else-values-ne0)
     (es-read (goal.at.returns c).Else-exponents-ne0)
-    (syndromed (goal.at.returns c).After-reply_syndrome) c.from_Fields.ensures
+    (syndromed (goal.at.returns c).After-reply_syndrome) c.from_fields.ensures

@@ -24,7 +24,7 @@ pub slice_bounds-squeeze-end : goal.slice_bounds-squeeze-end
 slice_bounds-squeeze-end c = long (goal.at.slice_bounds-squeeze-end c).Start
 
 pub squeeze-requires : goal.squeeze-requires
-squeeze-requires c = c.requires.1.c0-1
+squeeze-requires c = c.requires.1.c0
 
 c0-lent : (c : After-squeeze) → Lent c.args.p.digest (replicate 64 0) c.squeeze.new.out
 c0-lent c = record { fits = c.requires.0.digest_fits; kept = c.squeeze.auto.out }
@@ -36,7 +36,7 @@ pub slice_bounds-squeeze-end-2 : goal.slice_bounds-squeeze-end-2
 slice_bounds-squeeze-end-2 c = long (goal.at.slice_bounds-squeeze-end-2 c).Start
 
 pub squeeze-requires-2 : goal.squeeze-requires-2
-squeeze-requires-2 c = c.requires.1.c1-1
+squeeze-requires-2 c = c.requires.1.c1
 
 c1-lent : (c : After-squeeze-2) → Lent c.args.p.digest (replicate 64 0) c.squeeze-2.new.out
 c1-lent c = record { fits = c.requires.0.digest_fits; kept = c.squeeze-2.auto.out }
@@ -92,10 +92,10 @@ committed c {c0s} {c1s} holds =
     let p = c.args.p in
     let sized = sym (long_in_committed c) in
     let c0 =
-    lent_part (c0-lent_in_committed c) ∙ hashed p (c.squeeze.ensures.holds holds.c0-1) (λ i. all_commitments0_string c0s) sized
+    lent_part (c0-lent_in_committed c) ∙ hashed p (c.squeeze.ensures.holds holds.c0) (λ i. all_commitments0_string c0s) sized
     in
     let c1 =
-    lent_part (c1-lent_in_committed c) ∙ hashed p (c.squeeze-2.ensures.holds holds.c1-1)
+    lent_part (c1-lent_in_committed c) ∙ hashed p (c.squeeze-2.ensures.holds holds.c1)
     (λ i. all_commitments1_string c1s) sized
     in
     lent_part (made-lent c) ∙ hashed p c.hash2.ensures (λ i. 5 ∷ c0 i ++ c1 i) sized

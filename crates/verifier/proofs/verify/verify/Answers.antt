@@ -191,7 +191,7 @@ pieces-requires c =
       vs-vector (goal.at.pieces-requires c).Else-not-matrix,
       (s_read (goal.at.pieces-requires c).Else-fields-ne0).1,
       sig_long a.p (length a.key.now) (length a.msg.now) (length a.sig.now)
-          (sym c.sizes-refusal.ensures ∙ c.if-refusal-ne0.left),
+          (sym c.sizes-refusal.ensures ∙ c.if-refusal-ne0.false),
     )
 
 pub returns : goal.returns

@@ -65,7 +65,7 @@ returns-then-not-reply_sized c =
       eq-eqb (length a.c0.now) a.p.digest c.if-c0-d.false,
       eq-eqb (length a.c1.now) a.p.digest c.if-c1-d.false,
       eq-eqb (length a.h.now) a.p.digest c.if-h-d.false,
-      sym c.reply_sized_lem.ensures ∙ not-true c.reply_sized_lem.result c.if-not-reply_sized.true-raw,
+      sym c.reply_sized.ensures ∙ not-true c.reply_sized.result c.if-not-reply_sized.true-raw,
     )
 
 pub returns : goal.returns
@@ -78,5 +78,5 @@ returns c =
       eq-eqb (length a.c0.now) a.p.digest c.if-c0-d.false,
       eq-eqb (length a.c1.now) a.p.digest c.if-c1-d.false,
       eq-eqb (length a.h.now) a.p.digest c.if-h-d.false,
-      sym c.reply_sized_lem.ensures ∙ not-false c.reply_sized_lem.result c.if-not-reply_sized.false-raw,
+      sym c.reply_sized.ensures ∙ not-false c.reply_sized.result c.if-not-reply_sized.false-raw,
     )

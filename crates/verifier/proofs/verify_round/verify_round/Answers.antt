@@ -200,7 +200,7 @@ reply-long : (c : Else-range-ne0) → length c.args.reply.now
 reply-long c =
     let a = c.args in
     reply_sized_lem a.p a.key.now a.salt.now a.c0.now a.c1.now a.h.now a.challenge a.reply.now
-    (sym c.sizes-refusal.ensures ∙ c.if-refusal-ne0.left) (b-binary c)
+    (sym c.sizes-refusal.ensures ∙ c.if-refusal-ne0.false) (b-binary c)
 
 pub slice_bounds-matrix-end : goal.slice_bounds-matrix-end
 slice_bounds-matrix-end c =
