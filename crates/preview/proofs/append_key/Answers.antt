@@ -38,8 +38,7 @@ write_decimal-end-requires c =
 
 key : goal.returns
 key c =
-    let lettered = c.before.before.before in
-    key_put (start lettered).args.p (letters-put lettered) c.before.before.write_decimal-end.ensures
+    key_put c.args.p (letters-put (goal.at.returns c).After-write_decimal-arg-1) c.write_decimal-end.ensures
 
 pub bounds-out-end : goal.bounds-out-end
 bounds-out-end c =

@@ -15,9 +15,7 @@ write_decimal-end-requires c =
 
 row : goal.returns
 row c =
-    let keyed = c.before.before.before in
-    row_put (start keyed).args.p keyed.before.before.before.append_key-serial.ensures
-    c.before.before.write_decimal-end.ensures
+    row_put c.args.p c.append_key-serial.ensures c.write_decimal-end.ensures
 
 pub bounds-out-end : goal.bounds-out-end
 bounds-out-end c =

@@ -11,11 +11,11 @@ use Rattle.package.proofs.MakeLaws.{
   read_room,
   make_line_sealed,
 }
-use Rattle.package.proofs.make.make_from_line.Goals.{In-Read-2}
+use Rattle.package.proofs.make.make_from_line.Goals.{In-Read}
 use Rattle.package.proofs.make.make_from_line.Goals as goal
 
 -- the line was read as a profile
-read : (c : In-Read-2) →
+read : (c : In-Read) →
     let a = c.args in
     done c.in-Read.profile ≡ read_line (table_of a.table.now) a.line.now
 read c = sym (ap read_answer c.in-Read.is) ∙ c.read_line.ensures
@@ -32,7 +32,7 @@ seal-requires c =
     let a = c.args in record {
       sign_scratch = c.requires;
       room = read_room a.p a.table.now a.private.now a.master.now a.salt.now a.line.now a.out.now
-          a.length.now sized.result sized.ensures c.if-refusal-ne0.false _ (read (goal.at.seal-requires c).In-Read-2);
+          a.length.now sized.result sized.ensures c.if-refusal-ne0.false _ (read (goal.at.seal-requires c).In-Read);
     }
 
 pub returns-in-Read : goal.returns-in-Read
@@ -40,7 +40,7 @@ returns-in-Read c =
     let sized = c.check_make-refusal in
     let a = c.args in
     make_line_sealed a.p a.table.now a.private.now a.master.now a.salt.now a.line.now a.out.now
-    a.length.now sized.result sized.ensures c.if-refusal-ne0.false _ (read (goal.at.returns-in-Read c).In-Read-2) c.seal.ensures
+    a.length.now sized.result sized.ensures c.if-refusal-ne0.false _ (read (goal.at.returns-in-Read c).In-Read) c.seal.ensures
 
 pub returns-in-BadSize : goal.returns-in-BadSize
 returns-in-BadSize c =

@@ -1,6 +1,7 @@
 -- `make_package`: sizes, then the line in local bytes, then that line is sealed. Assumes nothing.
 use mathlib.Core.Path.{◌≡◌, subst}
 use native.Mathlib.Omega.{arith}
+use Rattle.std.proofs.Common.{◌≤◌, length}
 use borrow.Author.Rules.{rules}
 use Rattle.profile.specs.declared.WriteLine.{WriteLine}
 use Rattle.profile.specs.declared.WriteLine.TheVariants.{Written, BadSize, BadProfile}
@@ -16,7 +17,7 @@ use Rattle.package.proofs.MakeLaws.{
   make_broken,
   make_sealed,
 }
-use Rattle.package.proofs.make.make_package.Goals.{After-write_line, In-Written-2}
+use Rattle.package.proofs.make.make_package.Goals.{After-write_line, In-Written}
 use Rattle.package.proofs.make.make_package.Goals as goal
 
 -- the local bytes, as `write_line` left them where it gave this answer
@@ -28,19 +29,21 @@ answered c r told =
     subst (λ (w : WriteLine). Writes (table_of a.table.now) a.profile blank w c.write_line.new.out) told
     c.write_line.ensures
 
-answered_in_written : (c : In-Written-2) (r : WriteLine) → c.write_line.result ≡ r →
+-- where it wrote
+written : (c : In-Written) →
     let a = c.args in
-    Writes (table_of a.table.now) a.profile blank r c.write_line.new.out
-answered_in_written c r told =
+    Writes (table_of a.table.now) a.profile blank (Written c.in-Written.n) c.write_line.new.out
+written c =
     let a = c.args in
-    subst (λ (w : WriteLine). Writes (table_of a.table.now) a.profile blank w c.write_line.new.out) told
+    subst (λ (w : WriteLine). Writes (table_of a.table.now) a.profile blank w c.write_line.new.out) c.in-Written.is
     c.write_line.ensures
 
--- where it wrote
-written : (c : In-Written-2) →
+-- the written bytes lie in the local ones
+within : (c : In-Written) → c.in-Written.n ≤ length c.write_line.new.out
+within c =
     let a = c.args in
-    Writes (table_of a.table.now) a.profile blank (Written c.in-Written.n) c.write_line.last.1.1.0
-written c = answered_in_written c (Written c.in-Written.n) c.in-Written.is
+    let short = written_short (table_of a.table.now) a.profile c.write_line.new.out c.in-Written.n (written c) in
+    omega (arith, c.write_line.auto.out)
 
 pub returns-then-refusal-ne0 : goal.returns-then-refusal-ne0
 returns-then-refusal-ne0 c =
@@ -50,26 +53,22 @@ returns-then-refusal-ne0 c =
     c.check_make-refusal.result c.if-refusal-ne0.true c.check_make-refusal.ensures
 
 pub slice_bounds-line-end : goal.slice_bounds-line-end
-slice_bounds-line-end c =
-    let a = c.args in
-    let bytes = c.write_line.last.1.1.0 in
-    let short_draw = written_short (table_of a.table.now) a.profile bytes c.in-Written.n (written (goal.at.slice_bounds-line-end c).In-Written-2) in
-    omega (arith, c.write_line.kept.1.1.0)
+slice_bounds-line-end c = within (goal.at.slice_bounds-line-end c).In-Written
 
 pub slice_bounds-seal-end : goal.slice_bounds-seal-end
 slice_bounds-seal-end c =
-    front_length _ c.write_line.new.out (array-share-prefix-line c)
+    front_length _ c.write_line.new.out (within (goal.at.slice_bounds-seal-end c).In-Written)
 
 pub seal-requires : goal.seal-requires
 seal-requires c =
-    let bytes = c.write_line.last.1.1.0 in
+    let bytes = c.write_line.new.out in
     let sized = c.check_make-refusal in
     let a = c.args in record {
       sign_scratch = c.requires;
       room = front_room a.p a.table.now a.private.now a.master.now a.salt.now a.profile a.out.now
           a.length.now
-          sized.result sized.ensures c.if-refusal-ne0.false _ bytes c.write_line.kept.1.1.0
-          (array-share-prefix-line c);
+          sized.result sized.ensures c.if-refusal-ne0.false _ bytes c.write_line.auto.out
+          (within (goal.at.seal-requires c).In-Written);
     }
 
 pub returns-in-Written : goal.returns-in-Written
@@ -78,8 +77,8 @@ returns-in-Written c =
     let a = c.args in
     make_sealed a.p a.table.now a.private.now a.master.now a.salt.now a.profile a.out.now
     a.length.now
-    sized.result sized.ensures c.if-refusal-ne0.false c.write_line.last.1.1.0 c.in-Written.n
-    (written (goal.at.returns-in-Written c).In-Written-2) c.seal.ensures
+    sized.result sized.ensures c.if-refusal-ne0.false c.write_line.new.out c.in-Written.n
+    (written (goal.at.returns-in-Written c).In-Written) c.seal.ensures
 
 pub returns-in-BadSize : goal.returns-in-BadSize
 returns-in-BadSize c =
