@@ -1,5 +1,5 @@
-// The C interface at category 3: each entry lends scratch, arrays on the stack at the sizes of the category, and makes
-// one call. Another category is this file with its own sizes in the next two lines and its own names in C.
+// What the C interface calls at category 3: each entry lends scratch, arrays on the stack at the sizes of the category, and
+// makes one call. Another category is this file with its own sizes in the next two lines and its own names in C.
 ghost use Rattle.parameters.specs.Categories.{category3 as p};
 ghost use Rattle.scheme.specs.Entries.{SamplesMatrix, SamplesExponents, SamplesMaskValues, SamplesFirstChallenges};
 ghost use Rattle.scheme.specs.Entries.{SamplesSecondChallenge, MakesKey, Signs, Verifies, VerifiesRound};
@@ -16,8 +16,7 @@ const SEEDS: usize = P.t * P.seed;
 const STATES: usize = P.t * (2 * P.n + 2 * P.digest);
 
 // V, row by row.
-#[unsafe(no_mangle)]
-pub extern "C" fn gridprofile_category3_sample_matrix(block: &[u8], out: &mut [u8]) -> u8
+pub fn gridprofile_category3_sample_matrix(block: &[u8], out: &mut [u8]) -> u8
     ensures { SamplesMatrix p block.now out.old result out.new }
 {
     let mut scratch = [0u8; DRAWN_MATRIX];
@@ -25,8 +24,7 @@ pub extern "C" fn gridprofile_category3_sample_matrix(block: &[u8], out: &mut [u
 }
 
 // Exponents: of the key, and e' of a round.
-#[unsafe(no_mangle)]
-pub extern "C" fn gridprofile_category3_sample_exponents(block: &[u8], out: &mut [u8]) -> u8
+pub fn gridprofile_category3_sample_exponents(block: &[u8], out: &mut [u8]) -> u8
     ensures { SamplesExponents p block.now out.old result out.new }
 {
     let mut scratch = [0u8; P.n + 8];
@@ -34,8 +32,7 @@ pub extern "C" fn gridprofile_category3_sample_exponents(block: &[u8], out: &mut
 }
 
 // The mask values u' of a round.
-#[unsafe(no_mangle)]
-pub extern "C" fn gridprofile_category3_sample_mask_values(block: &[u8], out: &mut [u8]) -> u8
+pub fn gridprofile_category3_sample_mask_values(block: &[u8], out: &mut [u8]) -> u8
     ensures { SamplesMaskValues p block.now out.old result out.new }
 {
     let mut scratch = [0u8; P.n + 8];
@@ -43,8 +40,7 @@ pub extern "C" fn gridprofile_category3_sample_mask_values(block: &[u8], out: &m
 }
 
 // The first challenges β, 1 to 126.
-#[unsafe(no_mangle)]
-pub extern "C" fn gridprofile_category3_sample_first_challenges(block: &[u8], out: &mut [u8]) -> u8
+pub fn gridprofile_category3_sample_first_challenges(block: &[u8], out: &mut [u8]) -> u8
     ensures { SamplesFirstChallenges p block.now out.old result out.new }
 {
     let mut scratch = [0u8; P.t + 8];
@@ -52,8 +48,7 @@ pub extern "C" fn gridprofile_category3_sample_first_challenges(block: &[u8], ou
 }
 
 // The second challenge: 0 or 1 for each round.
-#[unsafe(no_mangle)]
-pub extern "C" fn gridprofile_category3_sample_second_challenge(block: &[u8], out: &mut [u8]) -> u8
+pub fn gridprofile_category3_sample_second_challenge(block: &[u8], out: &mut [u8]) -> u8
     ensures { SamplesSecondChallenge p block.now out.old result out.new }
 {
     let mut scratch = [0u8; P.t];
@@ -61,8 +56,7 @@ pub extern "C" fn gridprofile_category3_sample_second_challenge(block: &[u8], ou
 }
 
 // The public key of a private seed.
-#[unsafe(no_mangle)]
-pub extern "C" fn gridprofile_category3_make_key(private: &[u8], key: &mut [u8]) -> u8
+pub fn gridprofile_category3_make_key(private: &[u8], key: &mut [u8]) -> u8
     ensures { MakesKey p private.now key.old result key.new }
 {
     let mut block = [0u8; P.matrix];
@@ -71,8 +65,7 @@ pub extern "C" fn gridprofile_category3_make_key(private: &[u8], key: &mut [u8])
 }
 
 // The signature of a message.
-#[unsafe(no_mangle)]
-pub extern "C" fn gridprofile_category3_sign(
+pub fn gridprofile_category3_sign(
     private: &[u8],
     master: &[u8],
     salt: &[u8],
@@ -101,8 +94,7 @@ pub extern "C" fn gridprofile_category3_sign(
 }
 
 // Whether a signature is one of the message under the key.
-#[unsafe(no_mangle)]
-pub extern "C" fn gridprofile_category3_verify(key: &[u8], msg: &[u8], sig: &[u8]) -> u8
+pub fn gridprofile_category3_verify(key: &[u8], msg: &[u8], sig: &[u8]) -> u8
     ensures { Verifies p key.now msg.now sig.now result }
 {
     let mut block = [0u8; P.matrix];
@@ -111,8 +103,7 @@ pub extern "C" fn gridprofile_category3_verify(key: &[u8], msg: &[u8], sig: &[u8
 }
 
 // The round examiner: one round, given its challenges and commitments.
-#[unsafe(no_mangle)]
-pub extern "C" fn gridprofile_category3_verify_round(
+pub fn gridprofile_category3_verify_round(
     key: &[u8],
     salt: &[u8],
     i: u32,
@@ -134,8 +125,7 @@ pub extern "C" fn gridprofile_category3_verify_round(
 }
 
 // The package of the profile that a line means, and its length.
-#[unsafe(no_mangle)]
-pub extern "C" fn gridprofile_category3_make_package(
+pub fn gridprofile_category3_make_package(
     table: &[u8],
     private: &[u8],
     master: &[u8],
@@ -168,8 +158,7 @@ pub extern "C" fn gridprofile_category3_make_package(
 }
 
 // Stores the profile of a package for a device, where its signature holds.
-#[unsafe(no_mangle)]
-pub extern "C" fn gridprofile_category3_load(
+pub fn gridprofile_category3_load(
     store: &mut [u8],
     key: &[u8],
     sealed: &[u8],

@@ -1,5 +1,6 @@
-// The C interface: every entry over bytes and numbers. A slice is a pointer and a length in C. What the sizes of a
-// category decide stands in the category's module; the rest is here, with the contract of the function that it calls.
+// What the C interface calls, under its names: every entry over bytes and numbers. Crate gridprofile_c exports it to C. What
+// the sizes of a category decide stands in the category's module; the rest is here, with the contract of the function that
+// it calls.
 #![tactic(auto)]
 
 pub mod category1;
@@ -15,57 +16,49 @@ ghost use Rattle.preview.specs.Preview.{PreviewsTo};
 ghost use Rattle.evaluate.specs.Evaluate.{EvaluatesLine};
 ghost use Rattle.table.specs.File.{ReadsTable, LoadsTable};
 
-#[unsafe(no_mangle)]
-pub extern "C" fn gridprofile_shake128(input: &[u8], out: &mut [u8])
+pub fn gridprofile_shake128(input: &[u8], out: &mut [u8])
     ensures { Hashes128 input.now out.old out.new }
 {
     shake::shake128(input, out);
 }
 
-#[unsafe(no_mangle)]
-pub extern "C" fn gridprofile_shake256(input: &[u8], out: &mut [u8])
+pub fn gridprofile_shake256(input: &[u8], out: &mut [u8])
     ensures { Hashes256 input.now out.old out.new }
 {
     shake::shake256(input, out);
 }
 
-#[unsafe(no_mangle)]
-pub extern "C" fn gridprofile_pack_values(values: &[u8], packed: &mut [u8]) -> u8
+pub fn gridprofile_pack_values(values: &[u8], packed: &mut [u8]) -> u8
     ensures { PacksValues values.now packed.old result packed.new }
 {
     packing::pack_values(values, packed)
 }
 
-#[unsafe(no_mangle)]
-pub extern "C" fn gridprofile_unpack_values(packed: &[u8], values: &mut [u8]) -> u8
+pub fn gridprofile_unpack_values(packed: &[u8], values: &mut [u8]) -> u8
     ensures { UnpacksValues packed.now values.old result values.new }
 {
     packing::unpack_values(packed, values)
 }
 
-#[unsafe(no_mangle)]
-pub extern "C" fn gridprofile_pack_exponents(exponents: &[u8], packed: &mut [u8]) -> u8
+pub fn gridprofile_pack_exponents(exponents: &[u8], packed: &mut [u8]) -> u8
     ensures { PacksExponents exponents.now packed.old result packed.new }
 {
     packing::pack_exponents(exponents, packed)
 }
 
-#[unsafe(no_mangle)]
-pub extern "C" fn gridprofile_unpack_exponents(packed: &[u8], exponents: &mut [u8]) -> u8
+pub fn gridprofile_unpack_exponents(packed: &[u8], exponents: &mut [u8]) -> u8
     ensures { UnpacksExponents packed.now exponents.old result exponents.new }
 {
     packing::unpack_exponents(packed, exponents)
 }
 
-#[unsafe(no_mangle)]
-pub extern "C" fn gridprofile_read_line(table: &[u8], line: &[u8], profile: &mut [u8]) -> u8
+pub fn gridprofile_read_line(table: &[u8], line: &[u8], profile: &mut [u8]) -> u8
     ensures { ReadsImage table.now line.now profile.old result profile.new }
 {
     image::read_line_image(table, line, profile)
 }
 
-#[unsafe(no_mangle)]
-pub extern "C" fn gridprofile_write_line(
+pub fn gridprofile_write_line(
     table: &[u8],
     profile: &[u8],
     out: &mut [u8],
@@ -77,21 +70,14 @@ pub extern "C" fn gridprofile_write_line(
     image::write_line_image(table, profile, out, length)
 }
 
-#[unsafe(no_mangle)]
-pub extern "C" fn gridprofile_preview(
-    table: &[u8],
-    input: &[u8],
-    out: &mut [u8],
-    length: &mut usize,
-) -> u8
+pub fn gridprofile_preview(table: &[u8], input: &[u8], out: &mut [u8], length: &mut usize) -> u8
     ensures { PreviewsTo table.now input.now out.old length.old result
         out.new length.new }
 {
     preview::preview_into(table, input, out, length)
 }
 
-#[unsafe(no_mangle)]
-pub extern "C" fn gridprofile_lookup(
+pub fn gridprofile_lookup(
     store: &[u8],
     country: &[u8],
     class: u32,
@@ -105,8 +91,7 @@ pub extern "C" fn gridprofile_lookup(
     store::lookup(store, country, class, hertz, out, length)
 }
 
-#[unsafe(no_mangle)]
-pub extern "C" fn gridprofile_nearest(
+pub fn gridprofile_nearest(
     store: &[u8],
     country: &[u8],
     hertz: u32,
@@ -120,8 +105,7 @@ pub extern "C" fn gridprofile_nearest(
     nearest::nearest(store, country, hertz, volts, out, length)
 }
 
-#[unsafe(no_mangle)]
-pub extern "C" fn gridprofile_evaluate_line(
+pub fn gridprofile_evaluate_line(
     table: &[u8],
     input: &[u8],
     out: &mut [u8],
@@ -133,15 +117,13 @@ pub extern "C" fn gridprofile_evaluate_line(
     evaluate::evaluate_line(table, input, out, length)
 }
 
-#[unsafe(no_mangle)]
-pub extern "C" fn gridprofile_read_table(file: &[u8], table: &mut [u8]) -> u8
+pub fn gridprofile_read_table(file: &[u8], table: &mut [u8]) -> u8
     ensures { ReadsTable file.now table.old result table.new }
 {
     table::read_table(file, table)
 }
 
-#[unsafe(no_mangle)]
-pub extern "C" fn gridprofile_load_table(store: &mut [u8], file: &[u8]) -> u8
+pub fn gridprofile_load_table(store: &mut [u8], file: &[u8]) -> u8
     ensures { LoadsTable file.now store.old result store.new }
 {
     table::load_table(store, file)

@@ -1,21 +1,42 @@
 // Lists what a device would hold after the profile lines on standard input, each taken as if it were signed.
 #![tactic(auto)]
 
+ghost use Rattle.std.specs.Prelude.{◌<◌, ◌≤◌, IfOk, length, take};
+ghost use Rattle.std.specs.Io.KnownBytes.{Consumes, IsAtEnd};
+
 use preview::{LENT_SIZE, LONGEST_INPUT, Previewed, preview};
 use profile::table::TABLE_SIZE;
+use std::io;
+use std::io::Read;
 
-fn main() {
+// Reads on until the buffer is full or the input ends, and returns how many bytes it put at the front.
+fn read_full<R: Read>(reader: &mut R, buffer: &mut [u8]) -> io::Result<usize>
+    ensures within { IfOk result (λ n. n ≤ length buffer.new) }
+    ensures bytes { IfOk result (λ n. Consumes (R.remaining reader.old) (R.remaining reader.new) (take n buffer.new)) }
+    ensures end { IfOk result (λ n. n < length buffer.new → IsAtEnd (R.remaining reader.new)) }
+{
+    let mut done = 0;
+    while done < buffer.len() {
+        let n = reader.read(&mut buffer[done..])?;
+        if n == 0 {
+            break;
+        }
+        done += n;
+    }
+    Ok(done)
+}
+
+fn main(rt: HostRuntime) -> io::Result<()> {
     // One byte more than the longest input, so that a longer one is told from it.
     let mut input = [0u8; LONGEST_INPUT + 1];
-    // Reads on until the buffer is full or the input ends; an error counts as the end.
-    let length = io::read_full(0, &mut input);
+    let length = read_full(&mut rt.stdin(), &mut input)?;
     // As many bytes as the listing may have, so that nothing is refused.
     let mut out = [0u8; LENT_SIZE];
     // The table of the built-in classes.
     let classes = [0u8; TABLE_SIZE];
     let answer = preview(&classes, &input[..length], &mut out);
     let Previewed::Length(n) = answer else {
-        return;
+        return Ok(());
     };
-    io::write_all(1, &out[..n]);
+    rt.write_all(&out[..n])
 }
