@@ -1,35 +1,37 @@
 // Lists what a device would hold after the profile lines on standard input, each taken as if it were signed.
 #![tactic(auto)]
 
-ghost use Rattle.std.specs.Prelude.{◌<◌, ◌≤◌, IfOk, length, take};
-ghost use Rattle.std.specs.Io.KnownBytes.{Consumes, IsAtEnd};
+ghost use Rattle.std.specs.Prelude.{◌≤◌, length, take};
+ghost use Rattle.std.specs.Io.KnownBytes.{Consumes};
 
 use preview::{LENT_SIZE, LONGEST_INPUT, Previewed, preview};
 use profile::table::TABLE_SIZE;
 use std::io;
 use std::io::Read;
 
-// Reads on until the buffer is full or the input ends, and returns how many bytes it put at the front.
-fn read_full<R: Read>(reader: &mut R, buffer: &mut [u8]) -> io::Result<usize>
-    ensures within { IfOk result (λ n. n ≤ length buffer.new) }
-    ensures bytes { IfOk result (λ n. Consumes (R.remaining reader.old) (R.remaining reader.new) (take n buffer.new)) }
-    ensures end { IfOk result (λ n. n < length buffer.new → IsAtEnd (R.remaining reader.new)) }
+// Reads on until the buffer is full or the input ends, and returns how many bytes it put at the front. An error counts as
+// the end.
+fn read_full<R: Read>(reader: &mut R, buffer: &mut [u8]) -> usize
+    ensures within { result ≤ length buffer.new }
+    ensures bytes { Consumes (R.remaining reader.old) (R.remaining reader.new) (take result buffer.new) }
 {
     let mut done = 0;
     while done < buffer.len() {
-        let n = reader.read(&mut buffer[done..])?;
+        let Ok(n) = reader.read(&mut buffer[done..]) else {
+            break;
+        };
         if n == 0 {
             break;
         }
         done += n;
     }
-    Ok(done)
+    done
 }
 
 fn main(rt: HostRuntime) -> io::Result<()> {
     // One byte more than the longest input, so that a longer one is told from it.
     let mut input = [0u8; LONGEST_INPUT + 1];
-    let length = read_full(&mut rt.stdin(), &mut input)?;
+    let length = read_full(&mut rt.stdin(), &mut input);
     // As many bytes as the listing may have, so that nothing is refused.
     let mut out = [0u8; LENT_SIZE];
     // The table of the built-in classes.
