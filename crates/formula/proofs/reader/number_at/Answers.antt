@@ -1,12 +1,11 @@
 -- `formula::reader::number_at` meets its contract: the tests on what `read_decimal` found say whether it is a number without
 -- leading zeros. Assumes nothing.
 use mathlib.Core.Path.{◌≡◌}
-use mathlib.Core.Logic.{⊎_elim}
 use Prim.Native.Nat.{ℕ, ◌+◌}
-use borrow.Author.Rules.{rules}
 use lib.ListN.{get_or}
 use Rattle.formula.proofs.DigitLaws.{begins_inside, unread_empty, unread_large, unread_zero, read_number_lem}
 use Rattle.formula.proofs.reader.number_at.Goals as goal
+use Rattle.formula.proofs.reader.number_at.Goals.{then-s-at-eq48+else-end-at-2, else-s-at-eq48}
 
 pub returns-then-end-at : goal.returns-then-end-at
 returns-then-end-at c = unread_empty c.read_decimal-number.ensures c.requires c.if-end-at.true
@@ -30,6 +29,9 @@ returns c =
     let at : ℕ = c.args.at in
     let end : ℕ = c.read_decimal-number.result.end in
     let plain : get_or s at 0 ≡ 48 → end ≡ at + 1 =
-    λ e. ⊎_elim (λ w. w.1.left) (λ w. absurd (w.left e)) c.if-s-at-eq48.branch in
+    elim c.if-s-at-eq48.branch [
+      then-s-at-eq48+else-end-at-2 w ↦ λ e. w.if-end-at-2.false
+    | else-s-at-eq48 w ↦ λ e. absurd (w.if-s-at-eq48.false e)
+    ] in
     read_number_lem c.read_decimal-number.ensures c.requires c.if-end-at.false
     c.if-value-gt-MOST_NUMBER.false plain
