@@ -83,6 +83,12 @@ no_line (Read p) (inr e) = let clash : ◌≡◌ {A = ℕ} 0 2 = e in absurd (om
 no_line BadSize told = refl
 no_line BadLine told = refl
 
+-- nor was one by an answer that is no profile
+pub not_read : (r : ReadLine) → ((p : Profile) → r ≡ Read p → ⊥) → is_read (read_answer r) ≡ false
+not_read (Read p) other = absurd (other p refl)
+not_read BadSize other = refl
+not_read BadLine other = refl
+
 module _ (table : List Class) where
   -- a line that is read is not too long
   pub read_short_lem : (text : List ℕ) (p : Profile) → read_line table text ≡ done p → length text ≤ longest

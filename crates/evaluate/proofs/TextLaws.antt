@@ -225,6 +225,12 @@ no_length (Length n) (inr e) = let clash : ◌≡◌ {A = ℕ} 0 2 = e in omega 
 no_length BadFormula told = tt
 no_length BadStep told = tt
 
+-- an answer that is no length is a refusal
+pub not_length : (r : Rewritten) → ((n : ℕ) → r ≡ Length n → ⊥) → IsRefused r
+not_length (Length n) other = other n refl
+not_length BadFormula other = tt
+not_length BadStep other = tt
+
 -- what ends no further than here ends no further than later
 ends_later : (r : Rewritten) {m n : ℕ} → m ≤ n → Ends m r → Ends n r
 ends_later (Length k) h e = omega arith
