@@ -1,4 +1,4 @@
--- `evaluate::evaluate_line` meets its contract: one check after the other, then all that is not a limit, then the formulas.
+-- `evaluate::evaluate_line` meets its contract: all that is not a limit is right, or the answer is 5; then the formulas decide.
 -- Assumes nothing.
 use mathlib.Core.Path.{◌≡◌, ◌∙◌, sym, ap}
 use mathlib.Core.List.{List}

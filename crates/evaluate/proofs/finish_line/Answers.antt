@@ -1,5 +1,5 @@
--- `evaluate::finish_line` meets its contract: a text that is a line is copied, and no other. Assumes nothing.
-use mathlib.Core.Path.{◌≡◌, ◌∙◌, sym, ap}
+-- `evaluate::finish_line` meets its contract: a text that is a line has room where it is copied. Assumes nothing.
+use mathlib.Core.Path.{sym}
 use Prim.Native.Nat.{◌≤◌}
 use native.Mathlib.Omega.{arith}
 use lib.ListN.{length}

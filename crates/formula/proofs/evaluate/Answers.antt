@@ -1,5 +1,4 @@
 -- `formula::evaluate` meets its contract: the length and the first byte say how the field is read. Assumes nothing.
-use borrow.Author.Rules.{rules}
 use Rattle.formula.proofs.WholeLaws.{field_long, field_empty, field_negative, field_sum}
 use Rattle.formula.proofs.evaluate.Goals as goal
 

@@ -1,5 +1,4 @@
--- `formula::negative` meets its contract: behind the minus stands a number that is not 0 and is the rest of the field, or the
--- field is no formula. Assumes nothing.
+-- `formula::negative` meets its contract: where something follows the number the field is no formula. Assumes nothing.
 use Rattle.formula.proofs.WholeLaws.{negative_longer}
 use Rattle.formula.proofs.negative.Goals as goal
 

@@ -1,5 +1,4 @@
--- `formula::whole_sum` meets its contract: the sum that was read is the whole field, or the field is no formula.
--- Assumes nothing.
+-- `formula::whole_sum` meets its contract: where something follows the sum the field is no formula. Assumes nothing.
 use Rattle.formula.proofs.WholeLaws.{sum_longer}
 use Rattle.formula.proofs.whole_sum.Goals as goal
 

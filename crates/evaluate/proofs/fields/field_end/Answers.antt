@@ -1,8 +1,6 @@
 -- `evaluate::fields::field_end` meets its contract: no comma stands in the bytes that were passed. Assumes nothing.
-use Prim.Native.Nat.{◌-◌}
 use native.Mathlib.Omega.{arith}
-use lib.ListN.{length}
-use Rattle.evaluate.proofs.FieldLaws.{NoComma, no_comma_yet, no_comma_here, ends_at_comma, ends_with_input}
+use Rattle.evaluate.proofs.FieldLaws.{no_comma_yet, no_comma_here, ends_at_comma, ends_with_input}
 use Rattle.evaluate.proofs.fields.field_end.Goals as goal
 
 pub loop-end-init : goal.loop-end-init

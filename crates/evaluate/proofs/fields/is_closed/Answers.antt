@@ -1,10 +1,7 @@
 -- `evaluate::fields::is_closed` meets its contract: the rest behind the bytes that were passed is closed exactly where the
 -- whole is. Assumes nothing.
-use mathlib.Core.Path.{◌≡◌, refl, ◌∙◌}
-use Prim.Native.Nat.{◌-◌}
+use mathlib.Core.Path.{refl, ◌∙◌}
 use native.Mathlib.Omega.{arith}
-use lib.ListN.{length, drop}
-use Rattle.evaluate.specs.Evaluate.{is_closed}
 use Rattle.evaluate.proofs.FieldLaws.{closed_here, closed_later, closed_never}
 use Rattle.evaluate.proofs.fields.is_closed.Goals as goal
 

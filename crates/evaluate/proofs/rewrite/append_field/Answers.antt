@@ -3,7 +3,6 @@ use mathlib.Core.Path.{refl}
 use Prim.Native.Nat.{◌+◌}
 use lib.ListN.{length}
 use Rattle.decimal.proofs.Stores.{put_part}
-use borrow.Author.Rules.{rules}
 use Rattle.evaluate.proofs.rewrite.append_field.Goals as goal
 
 pub returns : goal.returns

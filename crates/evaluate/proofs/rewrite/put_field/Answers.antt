@@ -1,5 +1,4 @@
--- `evaluate::rewrite::put_field` meets its contract: the field as it is, the number of a limit, or the formula's refusal.
--- Assumes nothing.
+-- `evaluate::rewrite::put_field` meets its contract: a limit's number has room, and is stored. Assumes nothing.
 use mathlib.Core.Path.{◌≡◌, ◌∙◌, sym}
 use mathlib.Core.Bool.{true}
 use Prim.Native.Nat.{◌≤◌}

@@ -1,25 +1,9 @@
--- `evaluate::rewrite::rewrite` meets its contract: the fields before the one that is found are stored, each with its comma.
-use mathlib.Core.Path.{◌≡◌, ◌∙◌, sym, subst}
-use mathlib.Core.List.{List}
-use Prim.Native.Nat.{ℕ, ◌+◌, ◌-◌, ◌≤◌, ◌<◌}
-use native.Mathlib.Omega.{arith}
-use lib.ListN.{length, set, length-set}
-use lib.IntN.{ℤ}
-use Rattle.outcome.specs.Result.{Result}
-use Rattle.decimal.proofs.Stores.{appended_length}
-use Rattle.profile.specs.Line.{comma}
-use Rattle.evaluate.specs.declared.rewrite.Rewritten.{Rewritten}
-use Rattle.evaluate.specs.InnerText.{room, part, FieldEnds, number_as, PutsField}
-use Rattle.evaluate.proofs.TextLaws.{
-  RewrittenSoFar,
-  nothing_yet,
-  fits_here,
-  one_more,
-  no_length,
-  stops_here,
-  all_put,
-}
-use borrow.Author.Rules.{rules}
+-- The fields before the one that is found are stored, each with its comma. Assumes nothing.
+use mathlib.Core.Path.{◌≡◌}
+use Prim.Native.Nat.{◌-◌}
+use lib.ListN.{length}
+use Rattle.evaluate.specs.InnerText.{room, FieldEnds, number_as}
+use Rattle.evaluate.proofs.TextLaws.{RewrittenSoFar}
 use Rattle.evaluate.proofs.rewrite.rewrite.Given as goal
 
 abbrev pub invariant-loop-end : goal.invariant-loop-end

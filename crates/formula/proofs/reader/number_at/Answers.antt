@@ -30,8 +30,8 @@ returns c =
     let end : ℕ = c.read_decimal-number.result.end in
     let plain : get_or s at 0 ≡ 48 → end ≡ at + 1 =
     elim c.if-s-at-eq48.branch [
-      then-s-at-eq48+else-end-at-2 w ↦ λ e. w.if-end-at-2.false
-    | else-s-at-eq48 w ↦ λ e. absurd (w.if-s-at-eq48.false e)
+      | then-s-at-eq48+else-end-at-2 w ↦ λ e. w.if-end-at-2.false
+      | else-s-at-eq48 w ↦ λ e. absurd (w.if-s-at-eq48.false e)
     ] in
     read_number_lem c.read_decimal-number.ensures c.requires c.if-end-at.false
     c.if-value-gt-MOST_NUMBER.false plain
