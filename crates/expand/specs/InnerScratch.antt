@@ -1,6 +1,6 @@
 -- Lent scratch, with sizes that are sound: a block for V, and V with room for the rest of its last group.
 -- Assumes nothing.
-use Rattle.std.specs.Prelude.{◌≡◌, List, ℕ, ◌+◌, ◌*◌, length}
+use Rattle.std.specs.Prelude.{◌≡◌, List, ℕ, ◌+◌, length}
 use Rattle.parameters.specs.declared.Params.{Params}
 use Rattle.parameters.specs.Sound.{Sound}
 use Rattle.scheme.specs.Key.{matrix_count}

@@ -16,7 +16,7 @@ use Rattle.parameters.specs.Sound.{Sound}
 use Rattle.profile.specs.declared.Profile.{Profile}
 use Rattle.profile.specs.declared.WriteLine.{WriteLine}
 use Rattle.profile.specs.declared.WriteLine.TheVariants.{Written, BadSize, BadProfile}
-use Rattle.outcome.specs.Result.{done, refused, answer, number_in, refusal_in}
+use Rattle.outcome.specs.Result.{done, refused, number_in, refusal_in}
 use Rattle.profile.specs.Rules.{Class, valid}
 use Rattle.profile.specs.Table.{table_of}
 use Rattle.profile.specs.Line.{longest, line_of, read_line, write_checks, write_line, write_answer, Writes}

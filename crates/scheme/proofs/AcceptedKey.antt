@@ -12,7 +12,7 @@ use Rattle.packing.specs.Packing.{pack}
 use Rattle.packing.proofs.Below.{Below}
 use Rattle.parameters.specs.declared.Params.{Params}
 use Rattle.parameters.specs.Sound.{Sound}
-use Rattle.linear.specs.Linear.{powers, syndrome}
+use Rattle.linear.specs.Linear.{powers}
 use Rattle.linear.proofs.Sizes.{length_powers, length_syndrome}
 use Rattle.linear.proofs.Ranges.{below_syndrome}
 use Rattle.scheme.specs.Strings.{key_exponents_string, key_seeds_string}

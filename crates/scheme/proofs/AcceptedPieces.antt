@@ -1,7 +1,7 @@
 -- With the signer's own c and h the pieces of its signature pass the verifier's tests.
 -- Assumes nothing.
-use mathlib.Core.Path.{◌≡◌, refl, ◌∙◌}
-use mathlib.Core.List.{List, ◌++◌}
+use mathlib.Core.Path.{◌≡◌, ◌∙◌}
+use mathlib.Core.List.{List}
 use Prim.Native.Nat.{ℕ, ◌+◌, ◌-◌, ◌*◌, ◌<◌}
 use lib.ListN.{length}
 use Rattle.outcome.specs.Answer.{Check, first_refusal}

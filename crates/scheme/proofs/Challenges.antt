@@ -12,7 +12,6 @@ use lib.Dec.{T, eqb}
 use lib.ListN.{length, get_or}
 use Rattle.outcome.specs.Lists.{total}
 use Rattle.outcome.proofs.Lists.{total_first}
-use Rattle.packing.specs.InnerVector.{Vector}
 use Rattle.packing.proofs.Below.{Below}
 use Rattle.parameters.specs.declared.Params.{Params}
 use Rattle.parameters.specs.Sound.{Sound}

@@ -1,7 +1,7 @@
 -- One round: what its seed draws, and what its reply tells the verifier and the round examiner.
 -- The reply to the second challenge 1 is the round's seed; the reply to 0 is y and σ, packed.
 -- Assumes nothing.
-use Rattle.std.specs.Prelude.{List, [], ◌∷◌, ℕ, ◌+◌, ◌-◌, eqb, take, drop}
+use Rattle.std.specs.Prelude.{List, [], ◌∷◌, ℕ, ◌+◌, eqb, take, drop}
 use Rattle.outcome.specs.Answer.{Check, ◌unless◌, short_draw, bad_field, pick}
 use Rattle.packing.specs.Packing.{unpack, size, all_below, spare_zero}
 use Rattle.parameters.specs.declared.Params.{Params}

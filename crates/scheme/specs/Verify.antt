@@ -1,6 +1,6 @@
 -- "The checker": verifying a signature, as Figure 5 of CROSS 1.1 recomputes it.
 -- Assumes nothing.
-use Rattle.std.specs.Prelude.{List, [], ◌∷◌, ◌++◌, ℕ, ◌+◌, ◌-◌, ◌*◌, eqb, leb, length, take, drop, get_or}
+use Rattle.std.specs.Prelude.{List, [], ◌∷◌, ◌++◌, ℕ, ◌+◌, ◌*◌, eqb, leb, length, take, drop, get_or}
 use Rattle.outcome.specs.Answer.{Check, ◌unless◌, bad_size, short_draw, mismatch, pick, first_refusal}
 use Rattle.outcome.specs.Lists.{flat, total, same}
 use Rattle.parameters.specs.declared.Params.{Params}

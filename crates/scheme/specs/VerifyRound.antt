@@ -2,7 +2,7 @@
 -- i, β and the challenge are numbers that may be anything; under a challenge other than 0 and 1 the reply's size
 -- is not looked at.
 -- Assumes nothing.
-use Rattle.std.specs.Prelude.{Bool, true, List, [], ◌∷◌, ◌++◌, ℕ, ◌+◌, eqb, leb, length}
+use Rattle.std.specs.Prelude.{Bool, true, List, [], ◌∷◌, ◌++◌, ℕ, eqb, leb, length}
 use Rattle.outcome.specs.Answer.{Check, ◌unless◌, bad_size, short_draw, bad_field, mismatch, pick, first_refusal}
 use Rattle.outcome.specs.Lists.{same}
 use Rattle.parameters.specs.declared.Params.{Params}

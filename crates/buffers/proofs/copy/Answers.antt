@@ -1,9 +1,8 @@
 -- `copy`: after i bytes the buffer holds the first i. Assumes nothing.
-use mathlib.Core.Path.{◌≡◌, ◌∙◌, refl}
-use Prim.Native.Nat.{◌≤◌, ◌-◌}
+use mathlib.Core.Path.{◌∙◌, refl}
 use native.Mathlib.Omega.{arith}
-use lib.ListN.{length, length-set}
-use Rattle.buffers.proofs.Compared.{copied, copied_store, copied_end}
+use lib.ListN.{length-set}
+use Rattle.buffers.proofs.Compared.{copied_store, copied_end}
 use Rattle.buffers.proofs.copy.Goals as goal
 
 pub loop-i-init : goal.loop-i-init

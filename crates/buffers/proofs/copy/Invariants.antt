@@ -1,9 +1,8 @@
 -- `copy`: after i bytes the buffer holds the first i. Assumes nothing.
-use mathlib.Core.Path.{◌≡◌, ◌∙◌, refl}
+use mathlib.Core.Path.{◌≡◌}
 use Prim.Native.Nat.{◌≤◌, ◌-◌}
-use native.Mathlib.Omega.{arith}
-use lib.ListN.{length, length-set}
-use Rattle.buffers.proofs.Compared.{copied, copied_store, copied_end}
+use lib.ListN.{length}
+use Rattle.buffers.proofs.Compared.{copied}
 use Rattle.buffers.proofs.copy.Given as goal
 
 abbrev pub invariant-loop-i : goal.invariant-loop-i

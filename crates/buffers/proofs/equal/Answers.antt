@@ -1,9 +1,6 @@
 -- `equal`: what is left of both decides. Assumes nothing.
-use mathlib.Core.Path.{◌≡◌, ◌∙◌, refl, sym}
-use Prim.Native.Nat.{◌≤◌, ◌-◌}
+use mathlib.Core.Path.{◌∙◌, refl, sym}
 use native.Mathlib.Omega.{arith}
-use lib.ListN.{length, drop}
-use Rattle.outcome.specs.Lists.{same}
 use Rattle.buffers.proofs.Compared.{same_longer, same_next, same_differ, same_end}
 use Rattle.buffers.proofs.equal.Goals as goal
 

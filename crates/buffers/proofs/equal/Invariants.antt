@@ -1,10 +1,8 @@
 -- `equal`: what is left of both decides. Assumes nothing.
-use mathlib.Core.Path.{◌≡◌, ◌∙◌, refl, sym}
+use mathlib.Core.Path.{◌≡◌}
 use Prim.Native.Nat.{◌≤◌, ◌-◌}
-use native.Mathlib.Omega.{arith}
 use lib.ListN.{length, drop}
 use Rattle.outcome.specs.Lists.{same}
-use Rattle.buffers.proofs.Compared.{same_longer, same_next, same_differ, same_end}
 use Rattle.buffers.proofs.equal.Given as goal
 
 abbrev pub invariant-loop-i : goal.invariant-loop-i

@@ -1,6 +1,5 @@
 -- `decimal::number_behind` meets its contract: past the bytes stands a number, or the slice has ended. Assumes nothing.
 use Rattle.decimal.proofs.Decimal.{number_missing, number_found}
-use borrow.Author.Rules.{rules}
 use native.Mathlib.Omega.{arith}
 use Rattle.decimal.proofs.number_behind.Goals as goal
 

@@ -1,11 +1,7 @@
 -- `decimal::read_decimal` meets its contract: the value so far and the digits that are left spell the number. Assumes nothing.
-use mathlib.Core.Path.{◌∙◌, sym}
 use Prim.Native.Nat.{◌-◌}
-use native.Mathlib.Omega.{arith}
-use borrow.Author.Rules.{rules}
-use borrow.Author.Tests.{not-true, not-false}
 use lib.ListN.{length}
-use Rattle.decimal.proofs.Decimal.{digit_low, ReadSoFar, so_far_none, so_far_more, so_far_stop, so_far_end}
+use Rattle.decimal.proofs.Decimal.{ReadSoFar}
 use Rattle.decimal.proofs.read_decimal.Given as goal
 
 abbrev pub invariant-loop-end : goal.invariant-loop-end

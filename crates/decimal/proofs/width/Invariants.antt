@@ -1,10 +1,8 @@
 -- `decimal::width` meets its contract: the digits counted and those of the rest are the digits of the number, the
 use mathlib.Core.Path.{◌≡◌}
 use Prim.Native.Nat.{◌+◌}
-use native.Mathlib.Omega.{arith}
 use lib.ListN.{length}
 use Rattle.decimal.specs.Decimal.{decimal}
-use Rattle.decimal.proofs.Decimal.{length_more, length_small, one_digit, few_digits}
 use Rattle.decimal.proofs.width.Given as goal
 
 abbrev pub invariant-loop-rest : goal.invariant-loop-rest

@@ -1,9 +1,8 @@
 -- `decimal::write_decimal` meets its contract: from the last digit on, what is stored and the digits that are left are
 -- the number's. Assumes nothing.
 use native.Mathlib.Omega.{arith}
-use borrow.Author.Rules.{rules}
 use lib.ListN.{length-set}
-use Rattle.decimal.proofs.Decimal.{DigitsLeft, left_all, left_more, left_last, left_within}
+use Rattle.decimal.proofs.Decimal.{left_all, left_more, left_last, left_within}
 use Rattle.decimal.proofs.write_decimal.Goals as goal
 
 pub loop-rest-init : goal.loop-rest-init

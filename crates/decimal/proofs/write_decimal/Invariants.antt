@@ -1,8 +1,5 @@
 -- `decimal::write_decimal` meets its contract: from the last digit on, what is stored and the digits that are left are
-use native.Mathlib.Omega.{arith}
-use borrow.Author.Rules.{rules}
-use lib.ListN.{length-set}
-use Rattle.decimal.proofs.Decimal.{DigitsLeft, left_all, left_more, left_last, left_within}
+use Rattle.decimal.proofs.Decimal.{DigitsLeft}
 use Rattle.decimal.proofs.write_decimal.Given as goal
 
 abbrev pub invariant-loop-rest : goal.invariant-loop-rest

@@ -1,5 +1,4 @@
 -- `pack_exponents`: packing refuses nothing here. Assumes nothing.
-use borrow.Author.Rules.{rules}
 use Rattle.expand.proofs.Packed.{packed_all}
 use Rattle.expand.proofs.pack_exponents.Goals as goal
 

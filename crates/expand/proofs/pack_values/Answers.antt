@@ -1,5 +1,4 @@
 -- `pack_values`: packing refuses nothing here. Assumes nothing.
-use borrow.Author.Rules.{rules}
 use Rattle.expand.proofs.Packed.{packed_all}
 use Rattle.expand.proofs.pack_values.Goals as goal
 

@@ -1,5 +1,4 @@
 -- `sampled`: enough were drawn just where the draw got n. Assumes nothing.
-use borrow.Author.Rules.{rules}
 use borrow.Author.Tests.{leb-true}
 use Rattle.expand.proofs.sampled.Goals as goal
 

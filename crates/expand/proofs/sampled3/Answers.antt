@@ -1,6 +1,5 @@
 -- `sampled3`: the part of the block that was lent holds the hash. Assumes nothing.
 use mathlib.Core.Path.{refl}
-use borrow.Author.Rules.{rules}
 use lib.ListN.{replicate}
 use Rattle.expand.proofs.Lent.{Lent, part_length, lent_within, lent_length, lent_hash}
 use Rattle.expand.proofs.Draws.{of_draw}

@@ -2,7 +2,6 @@
 use native.Mathlib.Omega.{arith}
 use Rattle.outcome.proofs.Numbers.{product_le}
 use Prim.Native.Nat.{◌*◌, ◌-◌, ◌≤◌}
-use borrow.Author.Rules.{rules}
 use Rattle.field.proofs.less.Goals as goal
 
 pub overflow_mul-b : goal.overflow_mul-b

@@ -1,5 +1,4 @@
 -- `multiples`: each entry is the product that its read gave. Assumes nothing.
-use borrow.Author.Rules.{rules}
 use Prim.Native.Nat.{ℕ}
 use Rattle.field.specs.Field.{times_power}
 use Rattle.field.specs.InnerProducts.{Multiples}

@@ -1,5 +1,4 @@
 -- `normalize`: 127 becomes 0, and what is below stays. Assumes nothing.
-use borrow.Author.Rules.{rules}
 use Rattle.field.proofs.Folds.{normalized}
 use Rattle.field.proofs.normalize.Goals as goal
 

@@ -2,7 +2,6 @@
 use mathlib.Core.Path.{◌∙◌, ap}
 use Prim.Native.Nat.{ℕ, ◌%◌, ◌≤◌}
 use native.Mathlib.Omega.{arith}
-use borrow.Author.Rules.{rules}
 use Rattle.field.proofs.Folds.{folded, thrice_congruent}
 use Rattle.field.proofs.reduce.Goals.{After-fold}
 use Rattle.field.proofs.reduce.Goals as goal

@@ -1,5 +1,4 @@
 -- `times_power_with`: the entry at the place of the power and the value. Assumes nothing.
-use borrow.Author.Rules.{rules}
 use Rattle.field.proofs.Products.{product_at}
 use Rattle.field.proofs.times_power_with.Goals as goal
 

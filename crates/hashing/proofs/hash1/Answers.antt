@@ -1,6 +1,5 @@
 -- `hash1`: parts that are left out are empty. Assumes nothing.
 use mathlib.Core.List.{append-nil}
-use borrow.Author.Rules.{rules}
 use Rattle.hashing.proofs.hash1.Goals as goal
 
 pub returns : goal.returns

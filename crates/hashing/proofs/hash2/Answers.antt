@@ -1,6 +1,5 @@
 -- `hash2`: parts that are left out are empty. Assumes nothing.
 use mathlib.Core.List.{append-nil}
-use borrow.Author.Rules.{rules}
 use Rattle.hashing.proofs.hash2.Goals as goal
 
 pub returns : goal.returns

@@ -1,5 +1,4 @@
 -- `hash5`: the sponge holds the tag and the parts so far. Assumes nothing.
-use borrow.Author.Rules.{rules}
 use Rattle.hashing.proofs.hash5.Goals as goal
 
 pub returns : goal.returns

@@ -1,5 +1,4 @@
 -- `tagged`: the tag is the first part. Assumes nothing.
-use borrow.Author.Rules.{rules}
 use Rattle.hashing.proofs.tagged.Goals as goal
 
 pub returns : goal.returns

@@ -5,7 +5,6 @@ use Rattle.image.proofs.EntryLaws.{read_table_size, read_image_size, read_image_
 use Rattle.profile.specs.Table.{table_of}
 use Rattle.profile.proofs.Theorems.{writes_read}
 use Rattle.image.proofs.Theorems.{valid_fits}
-use borrow.Author.Rules.{rules}
 use Rattle.image.proofs.read_line_image.Goals as goal
 
 pub returns-then-table-ne-TABLE_SIZE : goal.returns-then-table-ne-TABLE_SIZE

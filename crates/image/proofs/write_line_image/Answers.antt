@@ -1,6 +1,5 @@
 -- `image::write_line_image` meets its contract: the size, and then the line. Assumes nothing.
 use Rattle.image.proofs.EntryLaws.{write_table_size, write_image_size, write_image_line}
-use borrow.Author.Rules.{rules}
 use Rattle.image.proofs.write_line_image.Goals as goal
 
 pub returns-then-table-ne-TABLE_SIZE : goal.returns-then-table-ne-TABLE_SIZE

@@ -4,7 +4,6 @@ use Rattle.profile.specs.declared.WriteLine.{WriteLine}
 use Rattle.profile.specs.Table.{table_of}
 use Rattle.profile.specs.Line.{Writes}
 use Rattle.image.proofs.EntryLaws.{write_profile_line_done, write_profile_line_size, write_profile_line_broken}
-use borrow.Author.Rules.{rules}
 use Rattle.image.proofs.write_profile_line.Goals as goal
 
 pub returns-in-Written : goal.returns-in-Written

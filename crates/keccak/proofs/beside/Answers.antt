@@ -1,5 +1,4 @@
 -- θ's sum beside a column. Assumes nothing.
-use borrow.Author.Rules.{rules}
 use Rattle.keccak.proofs.Complement.{beside_shown}
 use Rattle.keccak.proofs.beside.Goals as goal
 

@@ -1,5 +1,4 @@
 -- The six lanes complemented. Assumes nothing.
-use borrow.Author.Rules.{rules}
 use mathlib.Core.List.{[], ◌∷◌}
 use lib.ListN.{get_or}
 use Rattle.keccak.specs.InnerPlanes.{reveal}

@@ -1,5 +1,4 @@
 -- The 24 rounds between two changes of the six lanes. Assumes nothing.
-use borrow.Author.Rules.{rules}
 use mathlib.Core.Path.{◌∙◌, ap}
 use lib.ListN.{length}
 use Rattle.keccak.specs.Keccak.{lane, state, rounds}

@@ -1,5 +1,4 @@
 -- Plane 4: its lanes as π brings them, then χ lane by lane. Assumes nothing.
-use borrow.Author.Rules.{rules}
 use mathlib.Core.Path.{◌∙◌}
 use mathlib.Core.Bool.{true, false}
 use mathlib.Core.List.{[], ◌∷◌}

@@ -1,5 +1,4 @@
 -- A round: the parities of the columns, θ's sums, and the five planes, stored one after the other. Assumes nothing.
-use borrow.Author.Rules.{rules}
 use mathlib.Core.Path.{◌∙◌, ap}
 use mathlib.Core.List.{[], ◌∷◌}
 use lib.Bits.{bit_xor}

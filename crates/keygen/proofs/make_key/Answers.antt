@@ -3,7 +3,6 @@ use mathlib.Core.Path.{◌∙◌, ap, sym, refl}
 use mathlib.Core.Bool.{Bool}
 use Prim.Native.Nat.{ℕ, ◌*◌}
 use native.Mathlib.Omega.{arith}
-use borrow.Author.Rules.{rules}
 use borrow.Author.Tests.{not-true, not-false, ne_eqb, eq-eqb}
 use borrow.Rule.Slice.PartMut.{mid_len}
 use lib.ListN.{length, replicate, drop}

@@ -1,8 +1,6 @@
 -- `material`: both seeds are hashed, and each is expanded from its part of them. Assumes nothing.
 use mathlib.Core.Path.{sym}
 use native.Mathlib.Omega.{arith}
-use borrow.Author.Rules.{rules}
-use borrow.Author.Tests.{not-true, not-false}
 use lib.Seq.{length-take-le}
 use Rattle.keygen.proofs.Made.{seeds_made, secret_part, public_part, matrix_short, exponents_drawn_lem}
 use Rattle.keygen.proofs.material.Goals as goal

@@ -1,12 +1,12 @@
 -- `add`: after i places the buffer spells the first i sums, then holds what it held. Assumes nothing.
 use mathlib.Core.Path.{◌∙◌, ap, sym}
-use Prim.Native.Nat.{ℕ, ◌≤◌, ◌-◌, ◌+◌, ◌%◌}
+use Prim.Native.Nat.{ℕ, ◌+◌, ◌%◌}
 use native.Mathlib.Omega.{arith}
-use lib.ListN.{length, get_or}
+use lib.ListN.{get_or}
 use Rattle.packing.proofs.Below.{below, below_at}
 use Rattle.linear.specs.InnerSteps.{added}
 use Rattle.linear.proofs.Sizes.{length_places}
-use Rattle.linear.proofs.Spelled.{Spelled, spelled_none, spelled_store, spelled_end, place_zip}
+use Rattle.linear.proofs.Spelled.{spelled_none, spelled_store, spelled_end, place_zip}
 use Rattle.linear.proofs.add.Goals as goal
 
 abbrev sum : ℕ → ℕ → ℕ

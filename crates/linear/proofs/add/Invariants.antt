@@ -1,12 +1,8 @@
 -- `add`: after i places the buffer spells the first i sums, then holds what it held. Assumes nothing.
-use mathlib.Core.Path.{◌∙◌, ap, sym}
-use Prim.Native.Nat.{ℕ, ◌≤◌, ◌-◌, ◌+◌, ◌%◌}
-use native.Mathlib.Omega.{arith}
-use lib.ListN.{length, get_or}
-use Rattle.packing.proofs.Below.{below, below_at}
+use Prim.Native.Nat.{◌≤◌, ◌-◌}
+use lib.ListN.{length}
 use Rattle.linear.specs.InnerSteps.{added}
-use Rattle.linear.proofs.Sizes.{length_places}
-use Rattle.linear.proofs.Spelled.{Spelled, spelled_none, spelled_store, spelled_end, place_zip}
+use Rattle.linear.proofs.Spelled.{Spelled}
 use Rattle.linear.proofs.add.Given as goal
 
 abbrev pub invariant-loop-i : goal.invariant-loop-i

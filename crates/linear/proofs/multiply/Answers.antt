@@ -1,11 +1,10 @@
 -- `multiply`: after i places the buffer holds the first i places of the result. Assumes nothing.
-use mathlib.Core.Path.{◌≡◌, ◌∙◌, refl}
-use Prim.Native.Nat.{ℕ, ◌≤◌, ◌-◌}
+use mathlib.Core.Path.{◌∙◌, refl}
+use Prim.Native.Nat.{ℕ}
 use native.Mathlib.Omega.{arith}
-use mathlib.Core.List.{List}
-use lib.ListN.{length, get_or}
+use lib.ListN.{get_or}
 use Rattle.packing.proofs.Below.{below, below_at}
-use Rattle.linear.proofs.Loops.{zipped, zipped_none, zipped_end, length_held, zipped_store, map_zip}
+use Rattle.linear.proofs.Loops.{zipped_none, zipped_end, length_held, zipped_store, map_zip}
 use Rattle.linear.proofs.Steps.{multiples_multiplied}
 use Rattle.linear.proofs.multiply.Invariants.{looked_up}
 use Rattle.linear.proofs.multiply.Goals as goal

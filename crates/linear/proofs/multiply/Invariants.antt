@@ -1,12 +1,9 @@
 -- `multiply`: after i places the buffer holds the first i places of the result. Assumes nothing.
-use mathlib.Core.Path.{◌≡◌, ◌∙◌, refl}
+use mathlib.Core.Path.{◌≡◌}
 use Prim.Native.Nat.{ℕ, ◌≤◌, ◌-◌}
-use native.Mathlib.Omega.{arith}
 use mathlib.Core.List.{List}
 use lib.ListN.{length, get_or}
-use Rattle.packing.proofs.Below.{below, below_at}
-use Rattle.linear.proofs.Loops.{zipped, zipped_none, zipped_end, length_held, zipped_store, map_zip}
-use Rattle.linear.proofs.Steps.{multiples_multiplied}
+use Rattle.linear.proofs.Loops.{zipped}
 use Rattle.linear.proofs.multiply.Given as goal
 
 -- what the seven products hold at an exponent

@@ -1,11 +1,8 @@
 -- `normalize`: after i places the buffer holds the first i residues, then what it held. Assumes nothing.
-use mathlib.Core.Path.{◌≡◌, ◌∙◌, ap, refl}
+use mathlib.Core.Path.{◌≡◌}
 use Prim.Native.Nat.{ℕ, ◌≤◌, ◌-◌, ◌%◌}
-use native.Mathlib.Omega.{arith}
 use lib.ListN.{length}
-use Rattle.packing.proofs.Below.{below, below_at}
-use Rattle.linear.specs.InnerLoose.{residues}
-use Rattle.linear.proofs.Loops.{zipped, zipped_none, zipped_end, length_held, zipped_store, zipped_next, map_zip}
+use Rattle.linear.proofs.Loops.{zipped}
 use Rattle.linear.proofs.normalize.Given as goal
 
 abbrev pub residue : ℕ → ℕ → ℕ

@@ -1,9 +1,8 @@
 -- `pair_sum`: the sum so far and the sums of what is left make the whole, modulo 127. Assumes nothing.
 use mathlib.Core.Path.{◌≡◌, ◌∙◌, ap, sym}
-use Prim.Native.Nat.{ℕ, ◌≤◌, ◌-◌, ◌+◌, ◌*◌, ◌%◌}
+use Prim.Native.Nat.{ℕ, ◌≤◌, ◌+◌, ◌*◌, ◌%◌}
 use native.Mathlib.Omega.{arith}
-use mathlib.Core.List.{List}
-use lib.ListN.{drop, get_or}
+use lib.ListN.{get_or}
 use Rattle.linear.specs.Linear.{dot}
 use Rattle.linear.proofs.Rows.{dot_more, dot_end, product_of, pair_low, pair_bound, pair_step}
 use Rattle.linear.proofs.pair_sum.Invariants.{left}

@@ -1,6 +1,5 @@
 -- `powers`: they are the multiples of 1. Assumes nothing.
 use mathlib.Core.Path.{◌∙◌}
-use borrow.Author.Rules.{rules}
 use Rattle.linear.proofs.Steps.{powers_multiplied}
 use Rattle.linear.proofs.powers.Goals as goal
 

@@ -9,10 +9,10 @@ use native.Mathlib.Nat.{mul-suc}
 use native.Mathlib.Numerals.{add-one}
 use Rattle.packing.proofs.Below.{below, below_take, below_drop}
 use Rattle.linear.proofs.Kept.{kept_below}
-use Rattle.linear.specs.Linear.{dot, rows_times}
+use Rattle.linear.specs.Linear.{dot}
 use Rattle.linear.proofs.Sizes.{length_rows_times}
 use Rattle.linear.proofs.Rows.{row_within, row_part, dot_covered}
-use Rattle.linear.proofs.Spelled.{Spelled, spelled_none, spelled_store, spelled_end, row_place}
+use Rattle.linear.proofs.Spelled.{spelled_none, spelled_store, spelled_end, row_place}
 use Rattle.linear.proofs.rows_times.Goals.{After-row_width-width, In-loop-i}
 use Rattle.linear.proofs.rows_times.Goals as goal
 

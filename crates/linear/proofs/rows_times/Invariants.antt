@@ -1,18 +1,9 @@
 -- `rows_times`: after i rows the buffer spells the first i places of the result. Assumes nothing.
-use mathlib.Core.Path.{◌≡◌, ◌∙◌, ap, sym}
-use mathlib.Core.List.{List}
-use Prim.Native.Nat.{ℕ, ◌≤◌, ◌-◌, ◌+◌, ◌*◌, ◌%◌}
-use native.Mathlib.Omega.{arith}
-use lib.ListN.{length, take, drop}
-use lib.Seq.{length-take-le}
-use native.Mathlib.Nat.{mul-suc}
-use native.Mathlib.Numerals.{add-one}
-use Rattle.packing.proofs.Below.{below, below_take, below_drop}
-use Rattle.linear.proofs.Kept.{kept_below}
-use Rattle.linear.specs.Linear.{dot, rows_times}
-use Rattle.linear.proofs.Sizes.{length_rows_times}
-use Rattle.linear.proofs.Rows.{row_within, row_part, dot_covered}
-use Rattle.linear.proofs.Spelled.{Spelled, spelled_none, spelled_store, spelled_end, row_place}
+use mathlib.Core.Path.{◌≡◌}
+use Prim.Native.Nat.{◌≤◌, ◌-◌, ◌*◌}
+use lib.ListN.{length, take}
+use Rattle.linear.specs.Linear.{rows_times}
+use Rattle.linear.proofs.Spelled.{Spelled}
 use Rattle.linear.proofs.rows_times.Given as goal
 
 abbrev pub invariant-loop-i : goal.invariant-loop-i

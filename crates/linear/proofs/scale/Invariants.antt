@@ -1,12 +1,9 @@
 -- `scale`: after i places the buffer holds the first i places of the result. Assumes nothing.
-use mathlib.Core.Path.{◌≡◌, ◌∙◌}
+use mathlib.Core.Path.{◌≡◌}
 use Prim.Native.Nat.{◌≤◌, ◌-◌}
-use native.Mathlib.Omega.{arith}
 use lib.ListN.{length}
-use Rattle.packing.proofs.Below.{below, below_at}
 use Rattle.field.specs.Field.{times_power}
-use Rattle.linear.specs.Linear.{scaled}
-use Rattle.linear.proofs.Loops.{zipped, zipped_none, zipped_end, length_held, zipped_store}
+use Rattle.linear.proofs.Loops.{zipped}
 use Rattle.linear.proofs.scale.Given as goal
 
 abbrev pub invariant-loop-i : goal.invariant-loop-i

@@ -1,13 +1,13 @@
 -- `subtract`: after i places the buffer spells the first i places of the result. Assumes nothing.
 use mathlib.Core.Path.{◌∙◌, sym}
-use Prim.Native.Nat.{◌≤◌, ◌<◌, ◌-◌}
+use Prim.Native.Nat.{◌<◌}
 use native.Mathlib.Omega.{arith}
-use lib.ListN.{length, get_or}
+use lib.ListN.{get_or}
 use Rattle.packing.proofs.Below.{below, below_at}
 use Rattle.field.specs.Field.{less}
 use Rattle.linear.specs.Linear.{less_times}
 use Rattle.linear.proofs.Sizes.{length_less_times}
-use Rattle.linear.proofs.Spelled.{Spelled, spelled_none, spelled_store, spelled_end, place_zip}
+use Rattle.linear.proofs.Spelled.{spelled_none, spelled_store, spelled_end, place_zip}
 use Rattle.linear.proofs.subtract.Goals as goal
 
 pub loop-i-init : goal.loop-i-init

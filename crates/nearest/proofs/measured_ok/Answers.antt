@@ -2,7 +2,6 @@
 use mathlib.Core.Path.{sym}
 use Rattle.profile.proofs.RuleLaws.{failing, passing}
 use Rattle.nearest.proofs.NearLaws.{measured_country, measured_hertz, measured_volts}
-use borrow.Author.Rules.{rules}
 use Rattle.nearest.proofs.measured_ok.Goals as goal
 
 pub returns-then-not-country_obeys : goal.returns-then-not-country_obeys

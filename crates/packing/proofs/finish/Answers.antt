@@ -1,13 +1,8 @@
 use Prim.Native.Nat.{◌-◌, ◌^◌}
 use native.Mathlib.Omega.{arith}
-use borrow.Author.Rules.{rules}
 use lib.ListN.{length}
 use Rattle.packing.proofs.Below.{below_true}
 use Rattle.packing.proofs.Groups.{group_last}
-use Rattle.packing.proofs.finish.Reads as reads
-use Rattle.packing.proofs.finish.Lts as lts
-use Rattle.packing.proofs.gather.Reads as gather-reads
-use Rattle.packing.proofs.scatter.Reads as scatter-reads
 use Rattle.packing.proofs.finish.Goals as goal
 
 -- src/lib.rt:91:1

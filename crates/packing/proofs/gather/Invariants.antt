@@ -1,13 +1,8 @@
 -- `packing::gather` meets its contract. The loop reads from the last field downward; its invariant: the number so far
-use mathlib.Core.Path.{◌≡◌, ◌∙◌, sym, ap, subst}
-use Prim.Native.Nat.{ℕ, ◌+◌, ◌-◌, ◌*◌, ◌%◌, ◌^◌, ◌<◌, ◌≤◌}
-use native.Mathlib.Nat.{sub-zero, add-zero, le_trans, mul-le-mul_left}
-use native.Mathlib.Omega.{arith}
-use borrow.Author.Rules.{rules}
+use mathlib.Core.Path.{◌≡◌}
+use Prim.Native.Nat.{◌+◌, ◌-◌, ◌≤◌}
 use lib.ListN.{take, drop}
 use Rattle.packing.specs.Packing.{number}
-use Rattle.packing.proofs.Below.{below_true}
-use Rattle.packing.proofs.Groups.{part_none, part_fits, gather_more}
 use Rattle.packing.proofs.gather.Given as goal
 
 abbrev pub invariant-loop-k : goal.invariant-loop-k

@@ -1,16 +1,8 @@
-use mathlib.Core.Path.{◌≡◌, ◌∙◌, sym, ap}
+use mathlib.Core.Path.{◌≡◌}
 use Prim.Native.Nat.{ℕ, ◌-◌, ◌<◌, ◌≤◌}
-use borrow.Author.Rules.{rules}
-use borrow.Author.Tests.{lt-ltb}
-use native.Mathlib.Omega.{arith}
 use lib.Dec.{ltb}
-use lib.ListN.{length, take, get_or}
-use lib.Seq.{take-length}
+use lib.ListN.{length, take}
 use Rattle.packing.specs.Packing.{all_below}
-use Rattle.packing.proofs.Below.{larger_test, more_test}
-use Rattle.packing.proofs.largest.Reads as reads
-use Rattle.packing.proofs.largest.Lts as lts
-use Rattle.packing.proofs.larger.Reads as larger-reads
 use Rattle.packing.proofs.largest.Given as goal
 
 abbrev pub invariant-loop-i : goal.invariant-loop-i

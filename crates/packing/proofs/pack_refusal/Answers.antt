@@ -1,7 +1,6 @@
 -- `packing::pack_refusal` meets its contract: each test decides as the list of checks says. Assumes nothing.
 use mathlib.Core.Path.{◌≡◌, ◌∙◌, sym}
 use mathlib.Core.Bool.{true, false}
-use borrow.Author.Rules.{rules}
 use borrow.Author.Tests.{lt-ltb, le-ltb}
 use Rattle.packing.specs.Packing.{all_below}
 use Rattle.packing.proofs.Refusals.{pack_bad_size, pack_bad_field, pack_passes}

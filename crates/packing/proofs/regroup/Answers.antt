@@ -1,12 +1,12 @@
 -- `packing::regroup` meets its contract. The loop's invariant: after g groups the buffer begins with the digits of
 -- their fields. The measure is how many groups are left. Assumes nothing.
 use mathlib.Core.Path.{◌≡◌, refl, ◌∙◌, sym, ap}
-use Prim.Native.Nat.{ℕ, ◌+◌, ◌-◌, ◌*◌, ◌^◌, ◌≤◌}
+use Prim.Native.Nat.{ℕ, ◌+◌, ◌*◌, ◌^◌, ◌≤◌}
 use native.Mathlib.Nat.{zero-mul, le_of_eq}
 use native.Mathlib.Omega.{arith}
 use borrow.Author.Rules.{rules}
-use lib.ListN.{length, take}
-use Rattle.packing.specs.Packing.{number, digits}
+use lib.ListN.{length}
+use Rattle.packing.specs.Packing.{digits}
 use Rattle.packing.proofs.Below.{below_true}
 use Rattle.packing.proofs.Groups.{group_more, group_fits, group_bits}
 use Rattle.packing.proofs.regroup.Goals.{In-loop-g}

@@ -1,13 +1,8 @@
 -- `packing::regroup` meets its contract. The loop's invariant: after g groups the buffer begins with the digits of
-use mathlib.Core.Path.{◌≡◌, refl, ◌∙◌, sym, ap}
-use Prim.Native.Nat.{ℕ, ◌+◌, ◌-◌, ◌*◌, ◌^◌, ◌≤◌}
-use native.Mathlib.Nat.{zero-mul, le_of_eq}
-use native.Mathlib.Omega.{arith}
-use borrow.Author.Rules.{rules}
+use mathlib.Core.Path.{◌≡◌}
+use Prim.Native.Nat.{◌-◌, ◌*◌, ◌≤◌}
 use lib.ListN.{length, take}
 use Rattle.packing.specs.Packing.{number, digits}
-use Rattle.packing.proofs.Below.{below_true}
-use Rattle.packing.proofs.Groups.{group_more, group_fits, group_bits}
 use Rattle.packing.proofs.regroup.Given as goal
 
 abbrev pub invariant-loop-g : goal.invariant-loop-g

@@ -1,14 +1,9 @@
 -- `packing::scatter` meets its contract. The loop's invariant: k digits stand in the buffer from `at` on, and what is
-use mathlib.Core.Path.{◌≡◌, ◌∙◌, sym, ap, subst}
+use mathlib.Core.Path.{◌≡◌}
 use mathlib.Core.List.{◌++◌}
-use Prim.Native.Nat.{ℕ, ◌+◌, ◌-◌, ◌*◌, ◌/◌, ◌^◌, ◌<◌, ◌≤◌}
-use native.Mathlib.Omega.{arith}
-use borrow.Author.Rules.{rules}
-use lib.ListN.{length, take, drop}
-use lib.Pow.{pow_pos}
+use Prim.Native.Nat.{◌+◌, ◌-◌, ◌*◌, ◌/◌, ◌^◌, ◌≤◌}
+use lib.ListN.{take, drop}
 use Rattle.packing.specs.Packing.{digits}
-use Rattle.packing.proofs.Base.{length_digits, shift_none, shift_more}
-use Rattle.packing.proofs.Groups.{length_stored, stored_none, digit_small, scatter_more}
 use Rattle.packing.proofs.scatter.Given as goal
 
 abbrev pub invariant-loop-k : goal.invariant-loop-k

@@ -1,16 +1,10 @@
 -- `packing::see` meets its contract. The loop's invariant: k fields are seen, and what is left of the number is
-use mathlib.Core.Path.{◌≡◌, ◌∙◌, sym, ap, subst}
+use mathlib.Core.Path.{◌≡◌}
 use mathlib.Core.Bool.{false}
-use Prim.Native.Nat.{ℕ, ◌-◌, ◌*◌, ◌/◌, ◌^◌, ◌<◌, ◌≤◌}
-use native.Mathlib.Omega.{arith}
-use borrow.Author.Rules.{rules}
+use Prim.Native.Nat.{◌-◌, ◌*◌, ◌/◌, ◌^◌, ◌<◌, ◌≤◌}
 use lib.Dec.{ltb}
-use lib.Pow.{pow_pos}
 use Rattle.outcome.specs.Answer.{pick}
 use Rattle.packing.specs.Packing.{digits, all_below}
-use Rattle.packing.proofs.Base.{shift_none, shift_more}
-use Rattle.packing.proofs.Groups.{digit_small}
-use Rattle.packing.proofs.Seen.{see_none, see_more, see_fits}
 use Rattle.packing.proofs.see.Given as goal
 
 abbrev pub invariant-loop-k : goal.invariant-loop-k

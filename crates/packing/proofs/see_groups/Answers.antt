@@ -1,12 +1,10 @@
 -- `packing::see_groups` meets its contract. The loop's invariant: the fields of g groups are seen. The measure is how
 -- many groups are left. Assumes nothing.
 use mathlib.Core.Path.{◌≡◌, sym}
-use Prim.Native.Nat.{◌+◌, ◌-◌, ◌*◌, ◌^◌, ◌<◌, ◌≤◌}
+use Prim.Native.Nat.{◌+◌, ◌≤◌}
 use native.Mathlib.Nat.{zero-mul}
 use native.Mathlib.Omega.{arith}
-use lib.Dec.{ltb}
 use lib.ListN.{length}
-use Rattle.packing.specs.Packing.{number, digits, all_below}
 use Rattle.packing.proofs.Below.{bytes_below, below_test}
 use Rattle.packing.proofs.Groups.{group_fits}
 use Rattle.packing.proofs.Seen.{see_group, see_no_group}

@@ -1,14 +1,8 @@
 -- `packing::see_groups` meets its contract. The loop's invariant: the fields of g groups are seen. The measure is how
-use mathlib.Core.Path.{◌≡◌, sym}
-use Prim.Native.Nat.{◌+◌, ◌-◌, ◌*◌, ◌^◌, ◌<◌, ◌≤◌}
-use native.Mathlib.Nat.{zero-mul}
-use native.Mathlib.Omega.{arith}
+use mathlib.Core.Path.{◌≡◌}
+use Prim.Native.Nat.{◌-◌, ◌*◌, ◌^◌, ◌<◌, ◌≤◌}
 use lib.Dec.{ltb}
-use lib.ListN.{length}
 use Rattle.packing.specs.Packing.{number, digits, all_below}
-use Rattle.packing.proofs.Below.{bytes_below, below_test}
-use Rattle.packing.proofs.Groups.{group_fits}
-use Rattle.packing.proofs.Seen.{see_group, see_no_group}
 use Rattle.packing.proofs.see_groups.Given as goal
 
 abbrev pub invariant-loop-g : goal.invariant-loop-g

@@ -1,7 +1,6 @@
 -- `packing::unpack_few_values` meets its contract. Assumes nothing.
 use mathlib.Core.Path.{refl}
 use native.Mathlib.Omega.{arith}
-use borrow.Author.Rules.{rules}
 use Rattle.packing.proofs.Below.{bytes_below, below_test}
 use Rattle.packing.proofs.unpack_few_values.Goals as goal
 

@@ -7,7 +7,6 @@ use lib.ListN.{take, drop}
 use Rattle.decimal.specs.Decimal.{Appended}
 use Rattle.decimal.proofs.Stores.{appended_length, put_part}
 use Rattle.preview.proofs.RowLaws.{letters, key_length, key_put}
-use borrow.Author.Rules.{rules}
 use Rattle.preview.proofs.append_key.Goals.{After-write_decimal-arg-1}
 use Rattle.preview.proofs.append_key.Goals as goal
 

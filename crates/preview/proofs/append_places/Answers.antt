@@ -2,16 +2,15 @@
 -- Assumes nothing.
 use mathlib.Core.Path.{◌≡◌, refl, ◌∙◌, sym, ap}
 use mathlib.Core.List.{List, ◌++◌}
-use Prim.Native.Nat.{ℕ, ◌≤◌, ◌-◌}
+use Prim.Native.Nat.{ℕ}
 use native.Mathlib.Omega.{arith}
-use lib.ListN.{length, get_or}
-use Rattle.decimal.specs.Decimal.{Appended}
+use lib.ListN.{get_or}
 use Rattle.decimal.proofs.Stores.{then, appended_as, appended_length, room_as}
 use Rattle.store.specs.Stored.{capacity}
 use Rattle.order.specs.InnerPlaces.{profile_in}
 use Rattle.preview.specs.Preview.{row, rows}
 use Rattle.preview.proofs.RowLaws.{rows_before, rows_more, row_room, rows_all}
-use borrow.Author.Rules.{rules, Fits-under}
+use borrow.Author.Rules.{Fits-under}
 use Rattle.preview.proofs.append_places.Goals.{After-profile_at}
 use Rattle.preview.proofs.append_places.Goals as goal
 

@@ -4,7 +4,6 @@ use native.Mathlib.Omega.{arith}
 use lib.ListN.{length}
 use lib.Seq.{length-take-le}
 use Rattle.preview.proofs.RowLaws.{put_front}
-use borrow.Author.Rules.{rules}
 use Rattle.preview.proofs.append_text.Goals as goal
 
 pub slice_bounds-copy-end-2 : goal.slice_bounds-copy-end-2

@@ -4,7 +4,6 @@ use Rattle.profile.specs.Table.{table_of}
 use Rattle.image.proofs.Theorems.{valid_fits}
 use Rattle.store.proofs.Reached.{puts_step}
 use Rattle.preview.proofs.EntryLaws.{own_valid}
-use borrow.Author.Rules.{rules}
 use Rattle.preview.proofs.hold.Goals as goal
 
 pub returns : goal.returns

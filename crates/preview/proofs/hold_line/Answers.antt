@@ -4,7 +4,6 @@ use Rattle.profile.specs.declared.ReadLine.TheVariants.{Read, BadSize, BadLine}
 use Rattle.profile.specs.Table.{table_of}
 use Rattle.profile.specs.Line.{read_line, read_answer}
 use Rattle.profile.proofs.Theorems.{writes_read}
-use borrow.Author.Rules.{rules}
 use Rattle.preview.proofs.hold_line.Goals as goal
 
 pub hold-requires : goal.hold-requires

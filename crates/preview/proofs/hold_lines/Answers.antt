@@ -1,13 +1,9 @@
 -- `preview::hold_lines` meets its contract: the lines that were passed are stored, and a line is next or none is.
 -- Assumes nothing.
-use mathlib.Core.Path.{◌≡◌}
-use Prim.Native.Nat.{◌-◌}
 use native.Mathlib.Omega.{arith}
-use lib.ListN.{length}
 use Rattle.profile.specs.Table.{table_of}
-use Rattle.store.specs.Stored.{store_size, stored}
-use Rattle.preview.specs.Preview.{LineAt}
-use Rattle.preview.proofs.CutLaws.{Left, left_all, left_fewer, left_none}
+use Rattle.store.specs.Stored.{stored}
+use Rattle.preview.proofs.CutLaws.{left_all, left_fewer, left_none}
 use borrow.Author.Rules.{rules}
 use Rattle.preview.proofs.hold_lines.Goals as goal
 

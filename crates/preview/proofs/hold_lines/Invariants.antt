@@ -1,13 +1,11 @@
 -- `preview::hold_lines` meets its contract: the lines that were passed are stored, and a line is next or none is.
 use mathlib.Core.Path.{◌≡◌}
 use Prim.Native.Nat.{◌-◌}
-use native.Mathlib.Omega.{arith}
 use lib.ListN.{length}
 use Rattle.profile.specs.Table.{table_of}
 use Rattle.store.specs.Stored.{store_size, stored}
 use Rattle.preview.specs.Preview.{LineAt}
-use Rattle.preview.proofs.CutLaws.{Left, left_all, left_fewer, left_none}
-use borrow.Author.Rules.{rules}
+use Rattle.preview.proofs.CutLaws.{Left}
 use Rattle.preview.proofs.hold_lines.Given as goal
 
 abbrev pub invariant-loop-at : goal.invariant-loop-at

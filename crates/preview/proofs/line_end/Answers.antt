@@ -1,8 +1,6 @@
 -- `preview::line_end` meets its contract: no LF stands in the bytes that were passed. Assumes nothing.
-use Prim.Native.Nat.{◌-◌}
 use native.Mathlib.Omega.{arith}
-use lib.ListN.{length}
-use Rattle.preview.proofs.CutLaws.{Passed, passed_none, passed_more, line_found, line_unfinished}
+use Rattle.preview.proofs.CutLaws.{passed_none, passed_more, line_found, line_unfinished}
 use Rattle.preview.proofs.line_end.Goals as goal
 
 pub loop-i-init : goal.loop-i-init

@@ -1,6 +1,5 @@
 -- `preview_into`: each case of the answer as a number and a length. Assumes nothing.
 use Rattle.preview.proofs.Listed.{listed, unlisted}
-use borrow.Author.Rules.{rules}
 use Rattle.preview.proofs.preview_into.Goals as goal
 
 pub returns-in-Length : goal.returns-in-Length

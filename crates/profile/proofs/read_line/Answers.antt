@@ -15,7 +15,6 @@ use Rattle.profile.specs.Line.{tag, shortest, longest, line_of, kind_in, scanned
 use Rattle.decimal.proofs.Stores.{appended_length, front_length, front_taken}
 use Rattle.profile.proofs.RuleLaws.{inside, under, over, failing, passing}
 use Rattle.profile.proofs.EntryLaws.{line_room, read_size, read_tag, read_broken, read_respelled, read_done}
-use borrow.Author.Rules.{rules}
 use native.Mathlib.Omega.{arith}
 use Rattle.profile.proofs.read_line.Goals.{After-again-1, After-append_line-end, After-equal, Else-line-gt-LONGEST, Else-not-is_tagged, Else-not-valid}
 use Rattle.profile.proofs.read_line.Goals as goal

@@ -3,7 +3,6 @@ use Rattle.profile.specs.Table.{table_of}
 use Rattle.decimal.proofs.Stores.{appended_length}
 use Rattle.profile.proofs.RuleLaws.{failing, passing}
 use Rattle.profile.proofs.EntryLaws.{line_room, write_size, write_broken, write_done}
-use borrow.Author.Rules.{rules}
 use Rattle.profile.proofs.write_line.Goals as goal
 
 pub returns-then-out-ne-LONGEST : goal.returns-then-out-ne-LONGEST

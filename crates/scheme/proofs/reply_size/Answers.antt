@@ -1,7 +1,6 @@
 -- `reply_size`: by the second challenge. Assumes nothing.
 use Prim.Native.Nat.{◌+◌}
 use native.Mathlib.Omega.{arith}
-use borrow.Author.Rules.{rules}
 use borrow.Author.Tests.{eq-eqb, ne_eqb}
 use Rattle.scheme.proofs.reply_size.Goals as goal
 

@@ -2,7 +2,6 @@
 use mathlib.Core.Path.{◌≡◌, ap}
 use Prim.Native.Nat.{ℕ, ◌+◌, ◌-◌, ◌*◌}
 use native.Mathlib.Omega.{arith}
-use borrow.Author.Rules.{rules}
 use Rattle.scheme.specs.Sign.{part_size}
 use Rattle.scheme.proofs.Bounds.{ones_bounded, zeros_bounded}
 use Rattle.scheme.proofs.signature_size.Goals.{After-part_size, After-part_size-2}

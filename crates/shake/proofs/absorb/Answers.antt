@@ -1,6 +1,5 @@
 -- `absorb` meets its contract: the sponge holds what it held and then the part. Assumes nothing.
 use Rattle.shake.proofs.Holds.{absorbs}
-use borrow.Author.Rules.{rules}
 use Rattle.shake.proofs.absorb.Goals as goal
 
 pub returns : goal.returns

@@ -8,7 +8,6 @@ use Rattle.shake.specs.declared.Sponge.{Sponge}
 use Rattle.shake.specs.InnerFold.{sponge, xor_byte, turned, absorb_byte, absorb_bytes}
 use Rattle.shake.proofs.Blocks.{turned_at}
 use Rattle.shake.proofs.Holds.{absorbs, bytes_one}
-use borrow.Author.Rules.{rules}
 use Rattle.shake.proofs.absorb_byte.Goals as goal
 
 pub returns : goal.returns

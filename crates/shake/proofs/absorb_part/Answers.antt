@@ -1,11 +1,10 @@
 -- `absorb_part` meets its contract. The invariant: what is left of the part, absorbed into the sponge as it is, gives the
 -- whole. Assumes nothing.
-use mathlib.Core.Path.{◌≡◌, refl, ◌∙◌, sym, ap}
+use mathlib.Core.Path.{refl, ◌∙◌, sym, ap}
 use mathlib.Core.List.{List}
-use Prim.Native.Nat.{ℕ, ◌+◌, ◌-◌, ◌<◌, ◌≤◌}
+use Prim.Native.Nat.{ℕ, ◌+◌, ◌-◌}
 use native.Mathlib.Omega.{arith}
 use lib.ListN.{length, drop}
-use borrow.Author.Rules.{rules}
 use Rattle.keccak.specs.Keccak.{keccak_f}
 use Rattle.shake.specs.InnerFold.{sponge, absorb_bytes}
 use Rattle.shake.proofs.Lanes.{length_cut}

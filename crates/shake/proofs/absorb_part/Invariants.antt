@@ -1,14 +1,8 @@
 -- `absorb_part` meets its contract. The invariant: what is left of the part, absorbed into the sponge as it is, gives the
-use mathlib.Core.Path.{◌≡◌, refl, ◌∙◌, sym, ap}
-use mathlib.Core.List.{List}
-use Prim.Native.Nat.{ℕ, ◌+◌, ◌-◌, ◌<◌, ◌≤◌}
-use native.Mathlib.Omega.{arith}
+use mathlib.Core.Path.{◌≡◌}
+use Prim.Native.Nat.{◌-◌, ◌<◌, ◌≤◌}
 use lib.ListN.{length, drop}
-use borrow.Author.Rules.{rules}
-use Rattle.keccak.specs.Keccak.{keccak_f}
 use Rattle.shake.specs.InnerFold.{sponge, absorb_bytes}
-use Rattle.shake.proofs.Lanes.{length_cut}
-use Rattle.shake.proofs.Blocks.{absorb_bytes_block, absorb_bytes_last}
 use Rattle.shake.proofs.absorb_part.Given as goal
 
 abbrev pub invariant-loop-next : goal.invariant-loop-next

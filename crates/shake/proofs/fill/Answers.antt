@@ -8,7 +8,6 @@ use Rattle.keccak.proofs.Laws.{length_keccak_f}
 use Rattle.shake.specs.Shake.{squeezed}
 use Rattle.shake.specs.InnerFold.{sponge, xor_byte, absorb_bytes, fresh}
 use Rattle.shake.proofs.Holds.{squeezes}
-use borrow.Author.Rules.{rules}
 use Rattle.shake.proofs.fill.Goals as goal
 
 pub squeeze_blocks-requires : goal.squeeze_blocks-requires

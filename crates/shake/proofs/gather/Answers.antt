@@ -1,9 +1,9 @@
 -- `gather` meets its contract. The invariant: the bytes read and the number of those that are left make the whole. Assumes nothing.
 use mathlib.Core.Path.{◌≡◌, ◌∙◌, ap}
-use Prim.Native.Nat.{ℕ, ◌+◌, ◌-◌, ◌*◌, ◌^◌, ◌<◌, ◌≤◌}
+use Prim.Native.Nat.{ℕ, ◌+◌, ◌*◌, ◌^◌}
 use native.Mathlib.Nat.{zero-mul}
 use native.Mathlib.Omega.{arith}
-use lib.ListN.{length, drop, get_or, drop_of_length-le}
+use lib.ListN.{drop, get_or, drop_of_length-le}
 use Rattle.shake.specs.Shake.{little}
 use Rattle.shake.proofs.Lanes.{or_next, little_next}
 use Rattle.shake.proofs.gather.Goals as goal

@@ -1,11 +1,8 @@
 -- `gather` meets its contract. The invariant: the bytes read and the number of those that are left make the whole. Assumes nothing.
-use mathlib.Core.Path.{◌≡◌, ◌∙◌, ap}
-use Prim.Native.Nat.{ℕ, ◌+◌, ◌-◌, ◌*◌, ◌^◌, ◌<◌, ◌≤◌}
-use native.Mathlib.Nat.{zero-mul}
-use native.Mathlib.Omega.{arith}
-use lib.ListN.{length, drop, get_or, drop_of_length-le}
+use mathlib.Core.Path.{◌≡◌}
+use Prim.Native.Nat.{◌+◌, ◌-◌, ◌*◌, ◌^◌, ◌<◌, ◌≤◌}
+use lib.ListN.{length, drop}
 use Rattle.shake.specs.Shake.{little}
-use Rattle.shake.proofs.Lanes.{or_next, little_next}
 use Rattle.shake.proofs.gather.Given as goal
 
 abbrev pub invariant-loop-i : goal.invariant-loop-i

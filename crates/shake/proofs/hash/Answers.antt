@@ -6,7 +6,6 @@ use Rattle.keccak.proofs.Laws.{length_keccak_f}
 use Rattle.shake.specs.Shake.{squeezed}
 use Rattle.shake.specs.InnerFold.{sponge, xor_byte}
 use Rattle.shake.proofs.Holds.{absorbs, squeezes, holds_one}
-use borrow.Author.Rules.{rules}
 use Rattle.shake.proofs.hash.Goals as goal
 
 pub squeeze_blocks-requires : goal.squeeze_blocks-requires

@@ -1,11 +1,10 @@
 -- `write_block` meets its contract. The invariant: the first i bytes, those of k lanes, are written. Assumes nothing.
-use mathlib.Core.Path.{◌≡◌, refl, ◌∙◌, sym}
-use Prim.Native.Nat.{◌+◌, ◌-◌, ◌*◌, ◌≤◌}
+use mathlib.Core.Path.{refl, ◌∙◌, sym}
+use Prim.Native.Nat.{◌+◌, ◌-◌}
 use native.Mathlib.Omega.{arith}
-use lib.ListN.{length, take}
+use lib.ListN.{length}
 use borrow.Rule.Slice.PartMut.{put_mid}
 use lib.Seq.{take_all}
-use Rattle.shake.specs.Shake.{bytes_of}
 use Rattle.shake.proofs.Output.{put_bytes}
 use Rattle.shake.proofs.write_block.Goals as goal
 

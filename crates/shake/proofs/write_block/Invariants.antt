@@ -1,12 +1,8 @@
 -- `write_block` meets its contract. The invariant: the first i bytes, those of k lanes, are written. Assumes nothing.
-use mathlib.Core.Path.{◌≡◌, refl, ◌∙◌, sym}
-use Prim.Native.Nat.{◌+◌, ◌-◌, ◌*◌, ◌≤◌}
-use native.Mathlib.Omega.{arith}
+use mathlib.Core.Path.{◌≡◌}
+use Prim.Native.Nat.{◌-◌, ◌*◌, ◌≤◌}
 use lib.ListN.{length, take}
-use borrow.Rule.Slice.PartMut.{put_mid}
-use lib.Seq.{take_all}
 use Rattle.shake.specs.Shake.{bytes_of}
-use Rattle.shake.proofs.Output.{put_bytes}
 use Rattle.shake.proofs.write_block.Given as goal
 
 abbrev pub invariant-loop-i : goal.invariant-loop-i

@@ -6,7 +6,6 @@ use lib.ListN.{get_or, set}
 use lib.Bits.{bit_xor}
 use lib.Pow.{shl_exact}
 use Rattle.shake.specs.InnerFold.{xor_byte}
-use borrow.Author.Rules.{rules}
 use Rattle.shake.proofs.xor_byte.Goals as goal
 
 pub returns : goal.returns

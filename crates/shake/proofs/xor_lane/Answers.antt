@@ -5,7 +5,6 @@ use native.Mathlib.Omega.{arith}
 use lib.ListN.{get_or, set}
 use lib.Bits.{bit_xor}
 use Rattle.shake.proofs.Lanes.{xor_bytes_gathered}
-use borrow.Author.Rules.{rules}
 use Rattle.shake.proofs.xor_lane.Goals as goal
 
 pub returns : goal.returns

@@ -1,13 +1,8 @@
 -- `xor_lanes` meets its contract. The invariant: what is left of the part, put into the state as it is, gives the whole.
-use mathlib.Core.Path.{◌≡◌, refl, ◌∙◌, sym, ap}
-use mathlib.Core.List.{List}
-use Prim.Native.Nat.{ℕ, ◌+◌, ◌-◌, ◌%◌, ◌≤◌}
-use native.Mathlib.Nat.{add-zero}
-use native.Mathlib.Omega.{arith}
-use lib.ListN.{length, take, drop}
-use lib.Seq.{drop-length}
+use mathlib.Core.Path.{◌≡◌}
+use Prim.Native.Nat.{◌+◌, ◌-◌, ◌%◌, ◌≤◌}
+use lib.ListN.{length, drop}
 use Rattle.shake.specs.InnerFold.{xor_bytes}
-use Rattle.shake.proofs.Lanes.{xor_bytes_cut, length_cut}
 use Rattle.shake.proofs.xor_lanes.Given as goal
 
 abbrev pub invariant-loop-i : goal.invariant-loop-i

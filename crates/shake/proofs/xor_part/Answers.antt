@@ -8,7 +8,6 @@ use lib.ListN.{length, take, drop, length-drop}
 use lib.Seq.{take_all}
 use Rattle.shake.specs.InnerFold.{xor_bytes}
 use Rattle.shake.proofs.Lanes.{xor_bytes_cut}
-use borrow.Author.Rules.{rules}
 use Rattle.shake.proofs.xor_part.Goals as goal
 
 pub returns : goal.returns

@@ -5,7 +5,6 @@ use native.Mathlib.Omega.{arith}
 use Rattle.profile.specs.Rules.{Class}
 use Rattle.store.specs.Keys.{device_ok}
 use Rattle.store.proofs.ClassLaws.{no_table, behind_slots}
-use borrow.Author.Rules.{rules}
 use Rattle.store.proofs.device_ok.Goals as goal
 
 pub returns-then-store-lt-SLOTS_SIZE : goal.returns-then-store-lt-SLOTS_SIZE

@@ -1,14 +1,10 @@
 -- `store::is_class_in_rows` meets its contract. The invariant: no row before the place has the letter. Assumes nothing.
-use mathlib.Core.Path.{◌∙◌, sym}
 use mathlib.Core.Bool.{Bool}
 use mathlib.Core.List.{List}
 use Prim.Native.Nat.{ℕ, ◌-◌, ◌≤◌}
-use native.Mathlib.Omega.{arith}
-use borrow.Author.Tests.{eq-eqb, ne_eqb}
 use Rattle.profile.specs.Rules.{Class}
-use Rattle.profile.proofs.TableLaws.{RestAnswers, rest_first, rest_here, rest_later, rest_none}
+use Rattle.profile.proofs.TableLaws.{RestAnswers}
 use Rattle.store.specs.Keys.{has_class}
-use borrow.Author.Rules.{rules}
 use Rattle.store.proofs.is_class_in_rows.Given as goal
 
 -- what the rows are asked

@@ -1,7 +1,6 @@
 -- `store::is_for` meets its contract. Assumes nothing.
 use mathlib.Core.Path.{◌∙◌}
 use Rattle.store.specs.Keys.{same_key}
-use borrow.Author.Rules.{rules}
 use Rattle.store.proofs.is_for.Goals as goal
 
 pub returns : goal.returns

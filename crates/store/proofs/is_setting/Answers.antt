@@ -3,7 +3,6 @@ use mathlib.Core.Path.{◌∙◌, sym}
 use Rattle.profile.specs.Table.{table_of}
 use Rattle.profile.proofs.RuleLaws.{failing, passing}
 use Rattle.store.proofs.KeyLaws.{device_country, device_class, device_hertz}
-use borrow.Author.Rules.{rules}
 use Rattle.store.proofs.is_setting.Goals as goal
 
 pub returns-then-not-country_obeys : goal.returns-then-not-country_obeys

@@ -3,7 +3,6 @@ use mathlib.Core.Path.{◌≡◌, ◌∙◌, sym, ap}
 use mathlib.Core.Bool.{true}
 use native.Mathlib.Omega.{arith}
 use borrow.Author.Rules.{rules}
-use borrow.Author.Tests.{not-true, not-false}
 use Rattle.profile.specs.declared.Profile.{Profile}
 use Rattle.image.specs.Image.{has_image}
 use Rattle.store.specs.declared.Key.{Key}

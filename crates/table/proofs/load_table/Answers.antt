@@ -1,12 +1,10 @@
 -- `table::load_table` meets its contract: the size, then the file, then whether something is stored; only then the bytes behind
 -- the slots are written. Assumes nothing.
 use mathlib.Core.Path.{◌∙◌}
-use borrow.Author.Tests.{not-true, not-false}
 use Rattle.profile.proofs.RuleLaws.{failing, passing}
 use Rattle.table.specs.File.{table_image}
 use Rattle.table.proofs.StoreLaws.{put_behind}
 use Rattle.table.proofs.EntryLaws.{load_size, load_broken, load_in_use, load_done}
-use borrow.Author.Rules.{rules}
 use Rattle.table.proofs.load_table.Goals as goal
 
 pub returns-then-store-ne-STORE_SIZE : goal.returns-then-store-ne-STORE_SIZE

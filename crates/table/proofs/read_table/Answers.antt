@@ -1,9 +1,7 @@
 -- `table::read_table` meets its contract: the size, then the file; only an image that was read whole is copied.
 -- Assumes nothing.
 use mathlib.Core.Path.{◌∙◌}
-use borrow.Author.Tests.{not-true, not-false}
 use Rattle.table.proofs.EntryLaws.{read_size, read_broken, read_done}
-use borrow.Author.Rules.{rules}
 use Rattle.table.proofs.read_table.Goals as goal
 
 pub returns-then-table-ne-TABLE_SIZE : goal.returns-then-table-ne-TABLE_SIZE

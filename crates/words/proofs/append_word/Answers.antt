@@ -2,7 +2,6 @@
 use native.Mathlib.Omega.{arith}
 use lib.ListN.{length-set}
 use Rattle.words.proofs.WordLaws.{word_appended}
-use borrow.Author.Rules.{rules}
 use Rattle.words.proofs.append_word.Goals as goal
 
 pub bounds-out-at-2 : goal.bounds-out-at-2

@@ -1,7 +1,6 @@
 -- `make_and_load`: what was made lies within what was lent, and the four answers, put together. Assumes nothing.
-use borrow.Author.Rules.{rules}
 use Rattle.parameters.proofs.Sound.{sound_1}
-use Rattle.duty.proofs.CarryLoad.{made_within, made_length, makes_and_loads}
+use Rattle.duty.proofs.CarryLoad.{makes_and_loads}
 use Rattle.duty.proofs.category1.make_and_load.Goals as goal
 
 pub returns : goal.returns

@@ -1,5 +1,4 @@
 -- `sign_and_verify`: the three answers, put together. Assumes nothing.
-use borrow.Author.Rules.{rules}
 use Rattle.parameters.proofs.Sound.{sound_5}
 use Rattle.duty.proofs.Carry.{signs_and_verifies}
 use Rattle.duty.proofs.category5.sign_and_verify.Goals as goal

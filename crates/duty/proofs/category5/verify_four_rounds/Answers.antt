@@ -1,5 +1,4 @@
 -- `verify_four_rounds`: the four answers, put together. Assumes nothing.
-use borrow.Author.Rules.{rules}
 use Rattle.duty.proofs.Carry.{verifies_four_rounds}
 use Rattle.duty.proofs.category5.verify_four_rounds.Goals as goal
 

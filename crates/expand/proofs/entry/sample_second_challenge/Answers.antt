@@ -1,5 +1,4 @@
 -- `entry::sample_second_challenge`: scratch has a place for each round. Assumes nothing.
-use borrow.Author.Rules.{rules}
 use Rattle.expand.proofs.entry.sample_second_challenge.Goals as goal
 
 pub returns : goal.returns

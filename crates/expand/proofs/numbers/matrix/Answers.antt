@@ -1,7 +1,6 @@
 -- `numbers::matrix`: n and k are small, so that V has not too many places. Assumes nothing.
 use Prim.Native.Nat.{◌-◌}
 use native.Mathlib.Omega.{arith}
-use borrow.Author.Rules.{rules}
 use Rattle.outcome.proofs.Numbers.{product_le}
 use Rattle.expand.proofs.numbers.matrix.Goals as goal
 

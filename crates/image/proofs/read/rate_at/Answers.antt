@@ -1,6 +1,5 @@
 -- `image::read::rate_at` meets its contract: the first number says whether there is a rate point. Assumes nothing.
 use Rattle.image.proofs.ImageLaws.{rate_absent, rate_present}
-use borrow.Author.Rules.{rules}
 use Rattle.image.proofs.read.rate_at.Goals as goal
 
 pub returns-then-word_at-eq0 : goal.returns-then-word_at-eq0

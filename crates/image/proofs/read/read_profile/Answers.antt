@@ -1,6 +1,5 @@
 -- `image::read::read_profile` meets its contract. Assumes nothing.
 use Rattle.image.proofs.ImageLaws.{profile_read}
-use borrow.Author.Rules.{rules}
 use Rattle.image.proofs.read.read_profile.Goals as goal
 
 pub returns : goal.returns

@@ -1,6 +1,5 @@
 -- `image::read::trip_at` meets its contract: three numbers. Assumes nothing.
 use Rattle.image.proofs.ImageLaws.{trip_read}
-use borrow.Author.Rules.{rules}
 use Rattle.image.proofs.read.trip_at.Goals as goal
 
 pub returns : goal.returns

@@ -1,7 +1,6 @@
 -- `image::write::append_head` meets its contract: four stores. Assumes nothing.
 use native.Mathlib.Omega.{arith}
 use lib.ListN.{length-set}
-use borrow.Author.Rules.{rules}
 use Rattle.image.proofs.write.append_head.Goals as goal
 
 pub bounds-out-1 : goal.bounds-out-1

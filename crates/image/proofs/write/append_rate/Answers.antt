@@ -1,6 +1,5 @@
 -- `image::write::append_rate` meets its contract: three numbers, all 0 where there is no rate point. Assumes nothing.
 use Rattle.image.proofs.ImageLaws.{absent_appended, absent_fits, present_appended, present_fits}
-use borrow.Author.Rules.{rules}
 use Rattle.image.proofs.write.append_rate.Goals as goal
 
 pub returns-in-Absent : goal.returns-in-Absent

@@ -1,6 +1,5 @@
 -- `image::write::append_trip` meets its contract: three numbers. Assumes nothing.
 use Rattle.image.proofs.ImageLaws.{trip_appended, trip_fits}
-use borrow.Author.Rules.{rules}
 use Rattle.image.proofs.write.append_trip.Goals as goal
 
 pub returns : goal.returns

@@ -1,7 +1,6 @@
 -- `image::write::has_image` meets its contract: the first limit of a wrong kind decides, and else the rate point. Assumes nothing.
 use mathlib.Core.Path.{◌≡◌, ◌∙◌, sym}
 use mathlib.Core.Bool.{Bool}
-use borrow.Author.Rules.{rules}
 use Rattle.image.proofs.write.has_image.Goals as goal
 
 -- what a test in the code says of the definition that its result equals

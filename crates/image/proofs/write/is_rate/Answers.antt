@@ -3,7 +3,6 @@ use mathlib.Core.Path.{ap}
 use Prim.Native.Nat.{ℕ}
 use lib.Dec.{eqb}
 use Rattle.profile.specs.Rules.{rate}
-use borrow.Author.Rules.{rules}
 use Rattle.image.proofs.write.is_rate.Goals as goal
 
 pub returns : goal.returns

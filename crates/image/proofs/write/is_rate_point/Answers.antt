@@ -1,5 +1,4 @@
 -- `image::write::is_rate_point` meets its contract: a point that is present must be a rate. Assumes nothing.
-use borrow.Author.Rules.{rules}
 use Rattle.image.proofs.write.is_rate_point.Goals as goal
 
 pub returns-in-Present : goal.returns-in-Present

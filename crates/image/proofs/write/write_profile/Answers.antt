@@ -1,7 +1,6 @@
 -- `image::write::write_profile` meets its contract: the parts fill the image. Assumes nothing.
 use Rattle.image.specs.Image.{Fits}
 use Rattle.image.proofs.ImageLaws.{image_made, profile_written}
-use borrow.Author.Rules.{rules}
 use Rattle.image.proofs.write.write_profile.Goals as goal
 
 pub returns : goal.returns

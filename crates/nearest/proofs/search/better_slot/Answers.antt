@@ -4,7 +4,6 @@ use mathlib.Core.Bool.{Bool, true, false}
 use mathlib.Core.List.{List}
 use Prim.Native.Nat.{ℕ}
 use native.Mathlib.Omega.{arith}
-use borrow.Author.Tests.{not-true, not-false}
 use Rattle.outcome.specs.Answer.{pick}
 use Rattle.outcome.specs.Result.{done}
 use Rattle.image.specs.Image.{profile_of}
@@ -13,7 +12,6 @@ use Rattle.store.proofs.PlaceLaws.{part_slot}
 use Rattle.nearest.specs.Nearest.{is_better}
 use Rattle.nearest.specs.InnerSearch.{near_slot, in_slot, seen}
 use Rattle.nearest.proofs.NearLaws.{slot_there, slot_nowhere, seen_other, seen_first, seen_more}
-use borrow.Author.Rules.{rules}
 use Rattle.nearest.proofs.search.better_slot.Goals.{After-is_better, After-slot_near}
 use Rattle.nearest.proofs.search.better_slot.Goals as goal
 

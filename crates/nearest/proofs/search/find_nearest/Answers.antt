@@ -1,10 +1,7 @@
 -- `nearest::search::find_nearest` meets its contract. The invariant: the best of what is held and of the slots that are
 -- still to be seen is the nearest of all. Assumes nothing.
-use Prim.Native.Nat.{◌≤◌, ◌-◌}
 use native.Mathlib.Omega.{arith}
-use borrow.Author.Rules.{rules}
-use Rattle.store.specs.Stored.{capacity}
-use Rattle.nearest.proofs.NearLaws.{Seen, seen_none, seen_next, seen_all}
+use Rattle.nearest.proofs.NearLaws.{seen_none, seen_next, seen_all}
 use Rattle.nearest.proofs.search.find_nearest.Goals as goal
 
 pub loop-i-init : goal.loop-i-init

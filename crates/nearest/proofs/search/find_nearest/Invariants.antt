@@ -1,9 +1,7 @@
 -- `nearest::search::find_nearest` meets its contract. The invariant: the best of what is held and of the slots that are
 use Prim.Native.Nat.{◌≤◌, ◌-◌}
-use native.Mathlib.Omega.{arith}
-use borrow.Author.Rules.{rules}
 use Rattle.store.specs.Stored.{capacity}
-use Rattle.nearest.proofs.NearLaws.{Seen, seen_none, seen_next, seen_all}
+use Rattle.nearest.proofs.NearLaws.{Seen}
 use Rattle.nearest.proofs.search.find_nearest.Given as goal
 
 abbrev pub invariant-loop-i : goal.invariant-loop-i

@@ -3,7 +3,6 @@
 use mathlib.Core.Path.{◌≡◌, ◌∙◌, sym, ap}
 use Prim.Native.Nat.{ℕ}
 use lib.Dec.{ltb}
-use borrow.Author.Rules.{rules}
 use Rattle.image.specs.Image.{profile_of}
 use Rattle.nearest.specs.Nearest.{distance, far_from}
 use Rattle.nearest.proofs.NearLaws.{volts_at, better_apart, better_tie}

@@ -3,8 +3,7 @@ use mathlib.Core.Path.{◌≡◌, ◌∙◌, sym, ap}
 use mathlib.Core.Bool.{true}
 use Prim.Native.Nat.{ℕ}
 use lib.Dec.{leb}
-use borrow.Author.Rules.{rules}
-use borrow.Author.Tests.{eq-eqb, ne_eqb, not-true, not-false}
+use borrow.Author.Tests.{eq-eqb, ne_eqb}
 use Rattle.image.specs.Image.{profile_of}
 use Rattle.store.specs.Stored.{slot_of}
 use Rattle.nearest.specs.Nearest.{distance, is_of, reach}

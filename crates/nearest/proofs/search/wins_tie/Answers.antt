@@ -1,7 +1,6 @@
 -- `nearest::search::wins_tie` meets its contract. Assumes nothing.
 use mathlib.Core.Path.{◌∙◌}
 use lib.Dec.{ltb}
-use borrow.Author.Rules.{rules}
 use Rattle.nearest.proofs.NearLaws.{volts_at}
 use Rattle.nearest.proofs.search.wins_tie.Goals as goal
 

@@ -4,8 +4,6 @@
 use mathlib.Core.Path.{◌≡◌, ◌∙◌, sym, ap, subst}
 use mathlib.Core.Bool.{true}
 use mathlib.Core.List.{List}
-use borrow.Author.Rules.{rules}
-use borrow.Author.Tests.{not-true, not-false}
 use Rattle.profile.specs.Rules.{Class}
 use Rattle.store.specs.Keys.{device_of, device_ok}
 use Rattle.store.specs.Stored.{classes_of}

@@ -4,7 +4,6 @@ use Prim.Native.Nat.{◌≤◌}
 use native.Mathlib.Omega.{arith}
 use lib.ListN.{length}
 use lib.Seq.{length-take-le}
-use borrow.Author.Rules.{rules}
 use Rattle.outcome.specs.Answer.{bad_size, bad_profile, first_refusal}
 use Rattle.profile.specs.Table.{table_of}
 use Rattle.profile.specs.Line.{read_line, read_answer}

@@ -1,6 +1,5 @@
 -- `make_from_line`: sizes, then the line is read, and where it is one it is sealed. Assumes nothing.
 use mathlib.Core.Path.{◌≡◌, ◌∙◌, sym, ap}
-use borrow.Author.Rules.{rules}
 use Rattle.profile.specs.Table.{table_of}
 use Rattle.outcome.specs.Result.{done}
 use Rattle.profile.specs.Line.{read_line, read_answer}

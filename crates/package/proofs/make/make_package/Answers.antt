@@ -2,7 +2,6 @@
 use mathlib.Core.Path.{◌≡◌, subst}
 use native.Mathlib.Omega.{arith}
 use Rattle.std.proofs.Common.{◌≤◌, length}
-use borrow.Author.Rules.{rules}
 use Rattle.profile.specs.declared.WriteLine.{WriteLine}
 use Rattle.profile.specs.declared.WriteLine.TheVariants.{Written, BadSize, BadProfile}
 use Rattle.profile.specs.Table.{table_of}

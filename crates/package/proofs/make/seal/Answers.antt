@@ -1,5 +1,4 @@
 -- `seal`: the signature at the front, then the line behind it. Assumes nothing.
-use borrow.Author.Rules.{rules}
 use Rattle.package.proofs.MakeLaws.{part_length, seal_refused, seal_done}
 use Rattle.package.proofs.make.seal.Goals as goal
 

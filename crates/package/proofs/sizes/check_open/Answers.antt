@@ -1,7 +1,6 @@
 -- `check_open`: each return answers one check. Assumes nothing.
 use mathlib.Core.Path.{refl, ◌∙◌, sym}
 use native.Mathlib.Omega.{arith}
-use borrow.Author.Rules.{rules}
 use borrow.Author.Tests.{eq-eqb, ne_eqb, le-leb, lt-leb}
 use Rattle.scheme.specs.Key.{key_size}
 use Rattle.scheme.proofs.Bounds.{signature_bounded}

@@ -5,7 +5,6 @@ use Prim.Native.Nat.{ℕ}
 use Rattle.outcome.specs.Result.{Result}
 use Rattle.profile.specs.Rules.{class_answer, is_class}
 use Rattle.profile.proofs.RuleLaws.{failing, passing}
-use borrow.Author.Rules.{rules}
 use Rattle.profile.proofs.rules.class_agrees.Goals as goal
 
 pub returns-then-not-is_letter : goal.returns-then-not-is_letter

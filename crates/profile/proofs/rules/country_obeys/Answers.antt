@@ -1,6 +1,5 @@
 -- `profile::rules::country_obeys` meets its contract: a letter that fails decides, and else the other. Assumes nothing.
 use Rattle.profile.proofs.RuleLaws.{failing, passing}
-use borrow.Author.Rules.{rules}
 use Rattle.profile.proofs.rules.country_obeys.Goals as goal
 
 pub returns-then-not-is_letter : goal.returns-then-not-is_letter

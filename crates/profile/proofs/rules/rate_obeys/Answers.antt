@@ -1,7 +1,6 @@
 -- `profile::rules::rate_obeys` meets its contract: a point that is absent has no rules, one that is present those of a trip point.
 -- Assumes nothing.
 use Rattle.profile.specs.Rules.{obeys}
-use borrow.Author.Rules.{rules}
 use Rattle.profile.proofs.rules.rate_obeys.Goals as goal
 
 pub returns-in-Absent : goal.returns-in-Absent

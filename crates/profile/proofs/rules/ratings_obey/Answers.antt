@@ -3,7 +3,6 @@ use mathlib.Core.Path.{◌∙◌, sym}
 use mathlib.Core.Bool.{and-true}
 use Rattle.profile.specs.Rules.{obeys}
 use Rattle.profile.proofs.RuleLaws.{failing, passing}
-use borrow.Author.Rules.{rules}
 use Rattle.profile.proofs.rules.ratings_obey.Goals as goal
 
 pub returns-then-not-within : goal.returns-then-not-within

@@ -4,7 +4,6 @@ use mathlib.Core.Bool.{and-true, or-false}
 use borrow.Author.Tests.{eq-eqb, ne_eqb}
 use Rattle.profile.specs.Rules.{kind_of, obeys}
 use Rattle.profile.proofs.RuleLaws.{failing, passing}
-use borrow.Author.Rules.{rules}
 use Rattle.profile.proofs.rules.trip_obeys.Goals as goal
 
 pub returns-then-kind_of-kind : goal.returns-then-kind_of-kind

@@ -1,6 +1,5 @@
 -- `profile::rules::trips_obey` meets its contract: the first trip point that fails decides, and else the last. Assumes nothing.
 use Rattle.profile.proofs.RuleLaws.{failing, passing, trips_apart}
-use borrow.Author.Rules.{rules}
 use Rattle.profile.proofs.rules.trips_obey.Goals as goal
 
 pub returns-then-not-trip_obeys : goal.returns-then-not-trip_obeys

@@ -1,7 +1,6 @@
 -- `profile::rules::valid` meets its contract: the first part that fails decides, and else the class. Assumes nothing.
 use Rattle.profile.specs.Table.{table_of}
 use Rattle.profile.proofs.RuleLaws.{failing, passing, valid_apart}
-use borrow.Author.Rules.{rules}
 use Rattle.profile.proofs.rules.valid.Goals as goal
 
 pub returns-then-not-country_obeys : goal.returns-then-not-country_obeys

@@ -3,7 +3,6 @@ use mathlib.Core.Path.{subst}
 use Prim.Native.Nat.{ℕ}
 use Rattle.decimal.specs.Decimal.{NumberBehind}
 use Rattle.profile.proofs.LineLaws.{field_found}
-use borrow.Author.Rules.{rules}
 use Rattle.profile.proofs.scan.field_at.Goals as goal
 
 pub returns : goal.returns

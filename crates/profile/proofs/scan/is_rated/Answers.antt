@@ -1,7 +1,6 @@
 -- `profile::scan::is_rated` meets its contract: one comparison. Assumes nothing.
 use mathlib.Core.Path.{sym}
 use lib.Seq.{length-take-le}
-use borrow.Author.Rules.{rules}
 use native.Mathlib.Omega.{arith}
 use Rattle.profile.proofs.scan.is_rated.Goals as goal
 

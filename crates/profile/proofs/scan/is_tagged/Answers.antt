@@ -2,7 +2,6 @@
 use mathlib.Core.Path.{◌∙◌, sym}
 use lib.Seq.{length-take-le}
 use Rattle.profile.proofs.LineLaws.{tag_rated, tag_other}
-use borrow.Author.Rules.{rules}
 use native.Mathlib.Omega.{arith}
 use Rattle.profile.proofs.scan.is_tagged.Goals as goal
 

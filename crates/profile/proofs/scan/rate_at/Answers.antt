@@ -1,7 +1,6 @@
 -- `profile::scan::rate_at` meets its contract: the tag says whether there is a rate point. Assumes nothing.
 use Rattle.profile.proofs.RuleLaws.{failing, passing}
 use Rattle.profile.proofs.LineLaws.{rate_found, rate_missing}
-use borrow.Author.Rules.{rules}
 use Rattle.profile.proofs.scan.rate_at.Goals as goal
 
 pub returns-then-not-is_rated : goal.returns-then-not-is_rated

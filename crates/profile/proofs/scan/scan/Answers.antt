@@ -1,6 +1,5 @@
 -- `profile::scan::scan` meets its contract: field by field, each after the one before it. Assumes nothing.
 use Rattle.profile.proofs.LineLaws.{scanned_parts}
-use borrow.Author.Rules.{rules}
 use native.Mathlib.Omega.{arith}
 use Rattle.profile.proofs.scan.scan.Goals as goal
 

@@ -1,6 +1,5 @@
 -- `profile::scan::trip_at` meets its contract: two fields, one after the other. Assumes nothing.
 use Rattle.profile.proofs.LineLaws.{trip_found}
-use borrow.Author.Rules.{rules}
 use Rattle.profile.proofs.scan.trip_at.Goals as goal
 
 pub field_at-size-requires : goal.field_at-size-requires

@@ -2,7 +2,6 @@
 use mathlib.Core.Path.{◌∙◌, sym}
 use native.Mathlib.Omega.{arith}
 use Rattle.profile.proofs.TableLaws.{rows_room, no_rows, some_rows}
-use borrow.Author.Rules.{rules}
 use Rattle.profile.proofs.table.class_in.Goals as goal
 
 pub returns-then-rows-eq0 : goal.returns-then-rows-eq0

@@ -2,13 +2,12 @@
 use mathlib.Core.Path.{◌≡◌, ◌∙◌, sym, ap}
 use mathlib.Core.Bool.{Bool, true, false}
 use mathlib.Core.List.{List}
-use Prim.Native.Nat.{ℕ, ◌+◌, ◌-◌, ◌*◌, ◌≤◌}
+use Prim.Native.Nat.{ℕ, ◌+◌, ◌*◌}
 use native.Mathlib.Omega.{arith}
-use Rattle.outcome.specs.Result.{Result, done}
-use Rattle.profile.specs.Rules.{contains, Class, class_in}
+use Rattle.outcome.specs.Result.{done}
+use Rattle.profile.specs.Rules.{contains}
 use Rattle.profile.specs.Table.{row_size, row_at}
-use Rattle.profile.proofs.TableLaws.{RestAnswers, rest_first, rest_here, rest_later, rest_none}
-use borrow.Author.Rules.{rules}
+use Rattle.profile.proofs.TableLaws.{rest_first, rest_here, rest_later, rest_none}
 use Rattle.profile.proofs.table.class_in_rows.Invariants.{class_of}
 use Rattle.profile.proofs.table.class_in_rows.Goals as goal
 

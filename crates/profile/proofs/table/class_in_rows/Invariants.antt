@@ -1,14 +1,9 @@
 -- `profile::table::class_in_rows` meets its contract. The invariant: no row before the place holds the volts. Assumes nothing.
-use mathlib.Core.Path.{◌≡◌, ◌∙◌, sym, ap}
-use mathlib.Core.Bool.{Bool, true, false}
 use mathlib.Core.List.{List}
-use Prim.Native.Nat.{ℕ, ◌+◌, ◌-◌, ◌*◌, ◌≤◌}
-use native.Mathlib.Omega.{arith}
-use Rattle.outcome.specs.Result.{Result, done}
-use Rattle.profile.specs.Rules.{contains, Class, class_in}
-use Rattle.profile.specs.Table.{row_size, row_at}
-use Rattle.profile.proofs.TableLaws.{RestAnswers, rest_first, rest_here, rest_later, rest_none}
-use borrow.Author.Rules.{rules}
+use Prim.Native.Nat.{ℕ, ◌-◌, ◌≤◌}
+use Rattle.outcome.specs.Result.{Result}
+use Rattle.profile.specs.Rules.{Class, class_in}
+use Rattle.profile.proofs.TableLaws.{RestAnswers}
 use Rattle.profile.proofs.table.class_in_rows.Given as goal
 
 -- what the rows are asked

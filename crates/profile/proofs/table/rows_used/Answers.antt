@@ -2,7 +2,6 @@
 use mathlib.Core.Path.{sym}
 use native.Mathlib.Omega.{arith}
 use Rattle.profile.proofs.TableLaws.{other_size, right_size}
-use borrow.Author.Rules.{rules}
 use Rattle.profile.proofs.table.rows_used.Goals as goal
 
 pub returns-then-table-ne-TABLE_SIZE : goal.returns-then-table-ne-TABLE_SIZE

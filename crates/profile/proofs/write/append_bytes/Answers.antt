@@ -1,10 +1,9 @@
 -- `profile::put::append_bytes` meets its contract: after i turns the first i bytes are appended. Assumes nothing.
 use mathlib.Core.Path.{refl, ◌∙◌, sym, ap}
-use Prim.Native.Nat.{ℕ, ◌+◌, ◌-◌, ◌≤◌}
+use Prim.Native.Nat.{ℕ, ◌+◌}
 use native.Mathlib.Numerals.{add-one}
-use lib.ListN.{length, take}
+use lib.ListN.{take}
 use lib.Seq.{take-suc, take_all}
-use Rattle.decimal.specs.Decimal.{Appended}
 use Rattle.decimal.proofs.Stores.{one_byte, then, appended_as, appended_length}
 use native.Mathlib.Omega.{arith}
 use Rattle.profile.proofs.write.append_bytes.Goals as goal

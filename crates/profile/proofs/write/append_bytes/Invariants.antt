@@ -1,12 +1,7 @@
 -- `profile::put::append_bytes` meets its contract: after i turns the first i bytes are appended. Assumes nothing.
-use mathlib.Core.Path.{refl, ◌∙◌, sym, ap}
-use Prim.Native.Nat.{ℕ, ◌+◌, ◌-◌, ◌≤◌}
-use native.Mathlib.Numerals.{add-one}
+use Prim.Native.Nat.{◌+◌, ◌-◌, ◌≤◌}
 use lib.ListN.{length, take}
-use lib.Seq.{take-suc, take_all}
 use Rattle.decimal.specs.Decimal.{Appended}
-use Rattle.decimal.proofs.Stores.{one_byte, then, appended_as, appended_length}
-use native.Mathlib.Omega.{arith}
 use Rattle.profile.proofs.write.append_bytes.Given as goal
 
 abbrev pub invariant-loop-i : goal.invariant-loop-i

@@ -5,7 +5,6 @@ use Prim.Native.Nat.{ℕ, ◌≤◌}
 use lib.ListN.{length, set, length-set}
 use Rattle.profile.specs.Line.{comma}
 use Rattle.decimal.proofs.Stores.{appended_length}
-use borrow.Author.Rules.{rules}
 use native.Mathlib.Omega.{arith}
 use Rattle.profile.proofs.write.append_head.Goals.{After-slice_known-2-1}
 use Rattle.profile.proofs.write.append_head.Goals as goal

@@ -2,7 +2,6 @@
 use mathlib.Core.Path.{refl}
 use Rattle.profile.specs.Line.{written}
 use Rattle.decimal.proofs.Stores.{appended_length}
-use borrow.Author.Rules.{rules}
 use native.Mathlib.Omega.{arith}
 use Rattle.profile.proofs.write.append_rate.Goals as goal
 

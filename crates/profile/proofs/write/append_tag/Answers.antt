@@ -1,6 +1,5 @@
 -- `profile::write::append_tag` meets its contract: one tag, or the other. Assumes nothing.
 use Rattle.decimal.proofs.Stores.{appended_length}
-use borrow.Author.Rules.{rules}
 use Rattle.profile.proofs.write.append_tag.Goals as goal
 
 pub append_bytes-requires : goal.append_bytes-requires

@@ -4,7 +4,6 @@ use Rattle.profile.specs.Rules.{plain}
 use Rattle.profile.specs.Line.{field_bytes}
 use Rattle.decimal.proofs.Stores.{then, appended_as, appended_length, room_as, room_first, room_after}
 use Rattle.profile.proofs.LineLaws.{trip_as}
-use borrow.Author.Rules.{rules}
 use Rattle.profile.proofs.write.append_trip.Goals as goal
 
 put : goal.returns

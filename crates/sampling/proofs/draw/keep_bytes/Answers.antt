@@ -1,6 +1,5 @@
 -- `draw::keep_bytes`: the bytes as one number. Assumes nothing.
 use native.Mathlib.Omega.{arith}
-use borrow.Author.Rules.{rules}
 use Rattle.packing.proofs.Below.{below_index, below_test}
 use Rattle.sampling.proofs.draw.keep_bytes.Goals as goal
 

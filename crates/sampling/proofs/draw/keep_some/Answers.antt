@@ -2,13 +2,11 @@
 -- Assumes nothing.
 use mathlib.Core.Path.{◌≡◌, refl, ◌∙◌, sym}
 use mathlib.Core.List.{[], ◌∷◌, ◌++◌}
-use Prim.Native.Nat.{◌+◌, ◌-◌, ◌%◌, ◌^◌, ◌≤◌, ◌<◌}
+use Prim.Native.Nat.{◌%◌, ◌^◌, ◌<◌}
 use native.Mathlib.Nat.{mod-lt, sub-zero}
 use native.Mathlib.Omega.{arith}
-use borrow.Author.Rules.{rules}
-use lib.ListN.{length, take}
+use lib.ListN.{take}
 use lib.Pow.{pow_pos}
-use Rattle.packing.specs.Packing.{digits}
 use Rattle.sampling.specs.Sampling.{keep}
 use Rattle.sampling.proofs.Kept.{kept_more, kept_all}
 use Rattle.sampling.proofs.draw.keep_some.Goals as goal

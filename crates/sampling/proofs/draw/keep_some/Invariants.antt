@@ -1,15 +1,10 @@
 -- `draw::keep_some`: what is kept so far and what is left to keep are together what is to be kept.
-use mathlib.Core.Path.{◌≡◌, refl, ◌∙◌, sym}
-use mathlib.Core.List.{[], ◌∷◌, ◌++◌}
-use Prim.Native.Nat.{◌+◌, ◌-◌, ◌%◌, ◌^◌, ◌≤◌, ◌<◌}
-use native.Mathlib.Nat.{mod-lt, sub-zero}
-use native.Mathlib.Omega.{arith}
-use borrow.Author.Rules.{rules}
+use mathlib.Core.Path.{◌≡◌}
+use mathlib.Core.List.{◌++◌}
+use Prim.Native.Nat.{◌+◌, ◌-◌, ◌≤◌}
 use lib.ListN.{length, take}
-use lib.Pow.{pow_pos}
 use Rattle.packing.specs.Packing.{digits}
 use Rattle.sampling.specs.Sampling.{keep}
-use Rattle.sampling.proofs.Kept.{kept_more, kept_all}
 use Rattle.sampling.proofs.draw.keep_some.Given as goal
 
 abbrev pub invariant-loop-i : goal.invariant-loop-i

@@ -1,7 +1,6 @@
 -- `draw::keep_tail`: the rest of the block has fewer than eight fields. Assumes nothing.
 use Prim.Native.Nat.{◌-◌}
 use native.Mathlib.Omega.{arith}
-use borrow.Author.Rules.{rules}
 use lib.ListN.{length, take}
 use Rattle.sampling.proofs.Fields.{rest_few}
 use Rattle.sampling.proofs.Draws.{draws_rest}

@@ -1,13 +1,10 @@
 -- `draw::sample`: what was kept and what the rest of the block yields are together what the block yields.
-use mathlib.Core.Path.{◌≡◌, refl, ◌∙◌}
+use mathlib.Core.Path.{◌≡◌}
 use mathlib.Core.List.{List, ◌++◌}
 use Prim.Native.Nat.{ℕ, ◌+◌, ◌-◌, ◌≤◌}
-use native.Mathlib.Omega.{arith}
 use lib.ListN.{length, take, drop}
-use Rattle.packing.proofs.Below.{Below, below_index}
 use Rattle.sampling.specs.declared.draw.Draw.{Draw}
 use Rattle.sampling.specs.Sampling.{yield}
-use Rattle.sampling.proofs.Draws.{draws_more, sampled_enough, sampled_all}
 use Rattle.sampling.proofs.draw.sample.Given as goal
 
 abbrev pub yields : Draw → List ℕ → List ℕ

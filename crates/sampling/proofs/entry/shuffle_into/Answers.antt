@@ -1,6 +1,5 @@
 -- `entry::shuffle_into`: each return is the answer of the first test that fails. Assumes nothing.
 use mathlib.Core.Path.{refl, ◌∙◌, sym}
-use borrow.Author.Rules.{rules}
 use borrow.Author.Tests.{eq-eqb, ne_eqb}
 use lib.ListN.{length}
 use Rattle.outcome.proofs.Checks.{done, refused}

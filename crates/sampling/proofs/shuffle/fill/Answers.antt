@@ -1,10 +1,10 @@
 -- `shuffle::fill`: the places passed hold x. Assumes nothing.
 use mathlib.Core.Path.{◌≡◌, ◌∙◌, ap}
 use mathlib.Core.List.{◌++◌}
-use Prim.Native.Nat.{ℕ, ◌≤◌, ◌-◌}
+use Prim.Native.Nat.{ℕ}
 use borrow.Author.Fill.{fill_none, fill_more}
 use borrow.Author.Rules.{rules}
-use lib.ListN.{length, drop, replicate, length-set}
+use lib.ListN.{drop, replicate, length-set}
 use native.Mathlib.Omega.{arith}
 use Rattle.sampling.proofs.shuffle.fill.Goals as goal
 

@@ -1,5 +1,4 @@
 -- `shuffle::settle`: one field of the shuffle. Assumes nothing.
-use borrow.Author.Rules.{rules}
 use borrow.Author.Tests.{lt-ltb, le-ltb}
 use lib.ListN.{length-set}
 use native.Mathlib.Nat.{div-mul-le_self, mod-lt}

@@ -2,14 +2,13 @@
 -- Assumes nothing.
 use mathlib.Core.Path.{◌≡◌, refl, ◌∙◌, sym, ap}
 use mathlib.Core.List.{[], ◌∷◌}
-use Prim.Native.Nat.{ℕ, ◌+◌, ◌-◌, ◌≤◌, ◌<◌}
+use Prim.Native.Nat.{ℕ, ◌+◌, ◌≤◌}
 use native.Mathlib.Omega.{arith}
-use borrow.Author.Rules.{rules}
 use lib.ListN.{length, drop, length-drop}
 use Rattle.packing.proofs.Below.{Below, below_index}
 use Rattle.sampling.specs.Sampling.{fields}
 use Rattle.sampling.proofs.Fields.{fields_16, fields_none}
-use Rattle.sampling.proofs.Steps.{Leads, starts, step, ends, runs_short, next_le}
+use Rattle.sampling.proofs.Steps.{starts, step, ends, runs_short, next_le}
 use Rattle.sampling.proofs.shuffle.shuffle.Goals as goal
 
 pub loop-j-init : goal.loop-j-init

@@ -1,14 +1,9 @@
 -- `shuffle::shuffle`: after each field, what is left of the block leads from the positions to the second challenge.
-use mathlib.Core.Path.{◌≡◌, refl, ◌∙◌, sym, ap}
-use mathlib.Core.List.{[], ◌∷◌}
-use Prim.Native.Nat.{ℕ, ◌+◌, ◌-◌, ◌≤◌, ◌<◌}
-use native.Mathlib.Omega.{arith}
-use borrow.Author.Rules.{rules}
-use lib.ListN.{length, drop, length-drop}
-use Rattle.packing.proofs.Below.{Below, below_index}
+use mathlib.Core.Path.{◌≡◌}
+use Prim.Native.Nat.{◌-◌, ◌≤◌, ◌<◌}
+use lib.ListN.{length, drop}
 use Rattle.sampling.specs.Sampling.{fields}
-use Rattle.sampling.proofs.Fields.{fields_16, fields_none}
-use Rattle.sampling.proofs.Steps.{Leads, starts, step, ends, runs_short, next_le}
+use Rattle.sampling.proofs.Steps.{Leads}
 use Rattle.sampling.proofs.shuffle.shuffle.Given as goal
 
 abbrev pub invariant-loop-j : goal.invariant-loop-j

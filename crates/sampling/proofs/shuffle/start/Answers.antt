@@ -2,7 +2,6 @@
 use mathlib.Core.Path.{◌∙◌, ap}
 use mathlib.Core.List.{List, ◌++◌}
 use Prim.Native.Nat.{ℕ}
-use borrow.Author.Rules.{rules}
 use lib.ListN.{drop, replicate}
 use Rattle.sampling.proofs.Steps.{start_zeros}
 use Rattle.sampling.proofs.shuffle.start.Goals as goal

@@ -3,7 +3,6 @@ use mathlib.Core.Path.{◌∙◌, ap, sym}
 use mathlib.Core.List.{◌∷◌}
 use Prim.Native.Nat.{ℕ, ◌*◌}
 use native.Mathlib.Omega.{arith}
-use borrow.Author.Rules.{rules}
 use Rattle.outcome.specs.Lists.{flat}
 use Rattle.shake.specs.Shake.{shake}
 use Rattle.scheme.specs.Strings.{bytes_from, digest, all_commitments0_string, aggregate}

@@ -1,7 +1,6 @@
 -- `commit_round`: both masks are drawn, e' first, and the state is written from them. Assumes nothing.
 use mathlib.Core.Path.{◌∙◌, sym}
 use native.Mathlib.Omega.{arith}
-use borrow.Author.Rules.{rules}
 use borrow.Author.Tests.{not-true, not-false}
 use lib.Seq.{length-take-le}
 use Prim.Native.Nat.{◌+◌}

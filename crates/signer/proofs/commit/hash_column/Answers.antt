@@ -1,5 +1,4 @@
 -- `hash_column`: the sponge holds the tag and the column. Assumes nothing.
-use borrow.Author.Rules.{rules}
 use Rattle.signer.proofs.commit.hash_column.Goals as goal
 
 pub tagged-requires : goal.tagged-requires

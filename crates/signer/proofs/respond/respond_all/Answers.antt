@@ -3,11 +3,9 @@ use mathlib.Core.Path.{◌≡◌, refl, ◌∙◌, ap, sym, subst}
 use mathlib.Core.List.{List, ◌∷◌, ◌++◌}
 use Prim.Native.Nat.{ℕ, ◌+◌, ◌-◌, ◌*◌, ◌≤◌}
 use native.Mathlib.Omega.{arith}
-use borrow.Author.Rules.{rules}
 use lib.ListN.{length, take, drop, get_or}
 use Rattle.outcome.specs.Lists.{flat}
 use Rattle.packing.proofs.Below.{below, below_at}
-use Rattle.shake.specs.InnerFold.{Holds}
 use Rattle.shake.specs.Shake.{shake}
 use Rattle.scheme.specs.Strings.{bytes_from, digest, response_string, all_responses_string}
 use Rattle.signer.specs.InnerState.{State, state_at, response_of, h_at, h_of}

@@ -1,11 +1,10 @@
 -- `sign_with`: seeds and states are those of the definitions, and so is what follows from them. Assumes nothing.
 use mathlib.Core.Path.{◌≡◌, refl, ◌∙◌, ap, sym}
 use mathlib.Core.Bool.{Bool}
-use mathlib.Core.List.{List, ◌∷◌, ◌++◌}
+use mathlib.Core.List.{◌∷◌, ◌++◌}
 use Prim.Native.Nat.{ℕ}
 use native.Mathlib.Omega.{arith}
-use borrow.Author.Rules.{rules}
-use borrow.Author.Tests.{not-true, not-false}
+use borrow.Author.Tests.{not-false}
 use lib.ListN.{replicate, take, drop}
 use lib.Seq.{length-take-le}
 use Rattle.outcome.specs.Answer.{first_refusal, pick}

@@ -1,6 +1,5 @@
 -- `check_sizes`: each return answers one check. Assumes nothing.
 use mathlib.Core.Path.{refl, ◌∙◌, sym}
-use borrow.Author.Rules.{rules}
 use borrow.Author.Tests.{eq-eqb, ne_eqb, le-leb, lt-leb}
 use lib.ListN.{length}
 use Rattle.scheme.specs.Sign.{message_max, signature_size, sign_sizes}

@@ -1,19 +1,10 @@
 -- `write_parts`: after j rounds their parts are written; the next begins behind them. Assumes nothing.
-use mathlib.Core.Path.{◌≡◌, refl, ◌∙◌, ap, sym, subst}
-use mathlib.Core.List.{List, ◌++◌}
-use Prim.Native.Nat.{ℕ, ◌+◌, ◌-◌, ◌*◌, ◌≤◌}
-use native.Mathlib.Omega.{arith}
-use borrow.Author.Rules.{rules}
-use borrow.Rule.Slice.PartMut.{put_mid}
-use lib.ListN.{length, take, drop, get_or}
-use Rattle.outcome.specs.Lists.{flat, total}
-use Rattle.packing.proofs.Below.{below, below_at}
-use Rattle.scheme.specs.Sign.{part_size}
+use mathlib.Core.Path.{◌≡◌}
+use Prim.Native.Nat.{◌-◌, ◌*◌, ◌≤◌}
+use Rattle.outcome.specs.Lists.{flat}
 use Rattle.scheme.specs.Verify.{offset}
-use Rattle.scheme.proofs.Challenges.{total_within}
-use Rattle.signer.specs.InnerState.{State, state_at, seed_at, part_of, part_at}
-use Rattle.signer.proofs.Written.{Written, written_none, written_next, written_length, written_end, part_length}
-use Rattle.signer.proofs.Loops.{length_cut, part_within, step_on, part_at_lem, flat_more, total_more}
+use Rattle.signer.specs.InnerState.{part_at}
+use Rattle.signer.proofs.Written.{Written}
 use Rattle.signer.proofs.write.write_parts.Given as goal
 
 abbrev pub invariant-loop-j : goal.invariant-loop-j

@@ -3,7 +3,6 @@ use mathlib.Core.Path.{◌∙◌, sym}
 use mathlib.Core.List.{◌++◌}
 use Prim.Native.Nat.{◌+◌, ◌-◌}
 use native.Mathlib.Omega.{arith}
-use borrow.Author.Rules.{rules}
 use borrow.Rule.Slice.PartMut.{put_mid}
 use lib.ListN.{drop}
 use lib.Seq.{length-take-le}

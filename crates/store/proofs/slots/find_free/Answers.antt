@@ -1,12 +1,11 @@
 -- `store::slots::find_free` meets its contract. The invariant: no slot before the place is free. Assumes nothing.
 use mathlib.Core.Path.{◌≡◌, ◌∙◌, sym, ap}
 use mathlib.Core.List.{List}
-use Prim.Native.Nat.{ℕ, ◌≤◌, ◌-◌}
+use Prim.Native.Nat.{ℕ}
 use native.Mathlib.Omega.{arith}
 use mathlib.Core.Bool.{not}
 use Rattle.store.specs.Stored.{capacity, slot_of, is_free}
-use Rattle.store.proofs.PlaceLaws.{part_slot, Passed, find_here, find_more, find_end}
-use borrow.Author.Rules.{rules}
+use Rattle.store.proofs.PlaceLaws.{part_slot, find_here, find_more, find_end}
 use Rattle.store.proofs.slots.find_free.Goals as goal
 
 pub loop-i-init : goal.loop-i-init

@@ -2,7 +2,6 @@
 use mathlib.Core.Path.{◌∙◌, ap}
 use Rattle.image.specs.Image.{profile_of}
 use Rattle.store.proofs.PlaceLaws.{part_slot}
-use borrow.Author.Rules.{rules}
 use Rattle.store.proofs.slots.profile_at.Goals as goal
 
 pub returns : goal.returns

@@ -1,7 +1,6 @@
 -- `store::slots::slot_holds` meets its contract: each test that fails decides. Assumes nothing.
 use mathlib.Core.Path.{◌∙◌, sym}
-use borrow.Author.Rules.{rules}
-use borrow.Author.Tests.{eq-eqb, ne_eqb, not-true, not-false}
+use borrow.Author.Tests.{eq-eqb, ne_eqb}
 use Rattle.image.specs.Image.{profile_of}
 use Rattle.store.specs.Keys.{same_key}
 use Rattle.store.proofs.slots.slot_holds.Goals as goal

@@ -1,6 +1,5 @@
 -- `store::slots::write_slot` meets its contract. Assumes nothing.
 use Rattle.store.proofs.PlaceLaws.{slot_written}
-use borrow.Author.Rules.{rules}
 use Rattle.store.proofs.slots.write_slot.Goals as goal
 
 pub returns : goal.returns

@@ -1,6 +1,5 @@
 -- `table::file::number_behind` meets its contract: past the bytes stands a number, or the file has ended. Assumes nothing.
 use Rattle.table.proofs.PlaceLaws.{number_missing, number_found}
-use borrow.Author.Rules.{rules}
 use native.Mathlib.Omega.{arith}
 use Rattle.table.proofs.file.number_behind.Goals as goal
 

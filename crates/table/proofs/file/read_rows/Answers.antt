@@ -3,7 +3,7 @@
 use mathlib.Core.Path.{◌≡◌, refl, ◌∙◌, ap}
 use mathlib.Core.Bool.{true}
 use mathlib.Core.List.{List}
-use Prim.Native.Nat.{ℕ, ◌+◌, ◌-◌, ◌≤◌}
+use Prim.Native.Nat.{ℕ, ◌+◌, ◌≤◌}
 use lib.ListN.{length, drop}
 use native.Mathlib.Omega.{arith}
 use Rattle.profile.specs.Table.{table_size}
@@ -24,7 +24,6 @@ use Rattle.table.proofs.LoopLaws.{
   rows_read,
   not_read,
 }
-use borrow.Author.Rules.{rules}
 use Rattle.table.proofs.file.read_rows.Goals.{After-row_at-row, At-loop-at, Else-end-at, Else-not-row_fits}
 use Rattle.table.proofs.file.read_rows.Goals as goal
 

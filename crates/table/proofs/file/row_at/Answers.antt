@@ -1,6 +1,5 @@
 -- `table::file::row_at` meets its contract: a letter, and two numbers, one after the other. Assumes nothing.
 use Rattle.table.proofs.PlaceLaws.{row_read}
-use borrow.Author.Rules.{rules}
 use Rattle.table.proofs.file.row_at.Goals as goal
 
 pub returns : goal.returns

@@ -13,7 +13,6 @@ use Rattle.profile.specs.Rules.{Class}
 use Rattle.table.specs.File.{row_text}
 use Rattle.table.specs.InnerRows.{row_of}
 use Rattle.table.proofs.PlaceLaws.{text_fits, text_cut, text_stands, text_other}
-use borrow.Author.Rules.{rules}
 use Rattle.table.proofs.file.row_end.Goals.{After-append_row-size, After-equal, Start}
 use Rattle.table.proofs.file.row_end.Goals as goal
 

@@ -1,7 +1,6 @@
 -- `syndrome`: what unpacking answers. Assumes nothing.
 use Prim.Native.Nat.{◌-◌}
 use native.Mathlib.Omega.{arith}
-use borrow.Author.Rules.{rules}
 use lib.ListN.{length-drop}
 use Rattle.scheme.specs.Key.{key_fields, syndrome_of}
 use Rattle.verifier.proofs.Fields.{unpacked}

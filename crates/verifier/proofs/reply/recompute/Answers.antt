@@ -1,6 +1,5 @@
 -- `recompute`: by the second challenge. Assumes nothing.
 use mathlib.Core.Path.{◌∙◌}
-use borrow.Author.Rules.{rules}
 use Rattle.verifier.proofs.Values.{size_other, as_other, as_seed}
 use Rattle.verifier.proofs.reply.recompute.Goals as goal
 

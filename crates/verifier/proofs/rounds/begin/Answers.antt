@@ -1,5 +1,4 @@
 -- `begin`: each sponge holds its tag. Assumes nothing.
-use borrow.Author.Rules.{rules}
 use Rattle.scheme.specs.Strings.{all_commitments0_string, all_commitments1_string, all_responses_string}
 use Rattle.verifier.proofs.rounds.begin.Goals as goal
 

@@ -1,6 +1,5 @@
 -- `sizes`: one test for each check. Assumes nothing.
 use mathlib.Core.Path.{◌∙◌, sym}
-use borrow.Author.Rules.{rules}
 use borrow.Author.Tests.{eq-eqb, ne_eqb, le-leb, lt-leb}
 use Rattle.scheme.specs.Key.{key_size}
 use Rattle.scheme.specs.Sign.{signature_size, message_max}
