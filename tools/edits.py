@@ -1,27 +1,35 @@
 """The must-fail check: an edit counts only where the prover refused it because a fact fails, not
 because the edit does not parse or because the proof file no longer fits the code's shape."""
 
+import contextlib
 import glob
 import os
 import re
+import shutil
+import subprocess
+import tempfile
 
 # A first error that says one of these is about names and shapes, and not about a fact.
 UNFIT = re.compile(
     r"can be named from here|is not in scope|has no field `|was not admitted|is never closed"
-    r"|expected type `tie\.Need-[^`]*`,? but this has type `tie\.Need-"
+    r"|expected type `(?:\S+\.)?(?:goal|Goals)\.[^`]*`,? but this has type `(?:\S+\.)?(?:goal|Goals)\."
 )
-ERROR = re.compile(r"^(?P<file>/\S*?):\d+:\d+: error(?:\[[^\]]*\])?: (?P<text>.*)$")
-UNPROVED = re.compile(r"^note: (?P<file>/\S*?):\d+:\d+: (?P<text>it is not proved that .*)$")
+ERROR = re.compile(r"^(?P<file>\S+?):\d+:\d+: error(?:\[[^\]]*\])?: (?P<text>.*)$")
+UNPROVED = re.compile(r"^note: (?P<file>\S+?):\d+:\d+: (?P<text>it is not proved that .*)$")
 VERDICT = re.compile(r"^fn (?P<name>\S+): (?P<proved>proved$)?")
 EACH = re.compile(r"^each: (\S+)$", re.M)
+# What rt says of an edit. The first fact of a refusal follows, cut short, or a note in parentheses of why it says little.
+TRIED = re.compile(r"^rt: must-fail (?P<name>\S+/\S+)\.edit: (?P<came>.*)$", re.M)
+REFUSED = "refused, as it must be"
+PARTS = ("src", "specs", "proofs")
 
 
 def errors(lines):
-    """File and text of each thing that the prover refused. A need that Rattle could not prove by itself is a note."""
+    """File and text of each thing that the prover refused. A goal that Rattle could not prove by itself is a note."""
     for line in lines:
         found = ERROR.match(line) or UNPROVED.match(line)
         if found:
-            yield found.group("file"), found.group("text")
+            yield os.path.normpath(found.group("file")), found.group("text")
 
 
 def lines_of(log):
@@ -29,12 +37,12 @@ def lines_of(log):
     return re.sub(r"\n  +", " ", log).splitlines()
 
 
-def problem(log, folder):
-    """Why the edit is no good, or None."""
-    return judged(next(errors(lines_of(log)), None), folder)
+def problem(log):
+    """Why the edit is no good by all that a check said of it, or None."""
+    return judged(next(errors(lines_of(log)), None))
 
 
-def problem_of_each(log, folder, module):
+def problem_of_each(log, module):
     """Why some function of the module, or the one that is named, is not refused by a fact, or None. What is wrong in a
     proof file is said before all verdicts; what Rattle does not prove by itself, right before the function's own."""
     lines, start, names = lines_of(log), 0, 0
@@ -42,23 +50,22 @@ def problem_of_each(log, folder, module):
         verdict = VERDICT.match(line)
         if verdict and f"{verdict.group('name')}::".startswith(f"{module}::"):
             name, names = verdict.group("name"), names + 1
-            file = os.path.join(folder, "proofs", *name.split("::")[1:], "Proof.antt")
-            own = [error for error in errors(lines) if error[0] == file]
-            own += [error for error in errors(lines[start:at]) if os.path.relpath(error[0], folder).startswith("src/")]
+            folder = os.path.join("proofs", *name.split("::")[1:])
+            own = [error for error in errors(lines) if os.path.dirname(error[0]) == folder]
+            own += [error for error in errors(lines[start:at]) if error[0].startswith("src/")]
             if verdict.group("proved"):
                 return f"{name} is proved with it"
-            if said := judged(next(iter(own), None), folder):
+            if said := judged(next(iter(own), None)):
                 return f"{name}: {said}"
         start = at + 1 if verdict else start
     return None if names else f"its log speaks of no function of {module}"
 
 
-def judged(first, folder):
+def judged(first):
     """Why an error is no fact that fails, or None."""
     if first is None:
         return "its log shows no error"
-    path, text = first
-    part = os.path.relpath(path, folder)
+    part, text = first
     if UNFIT.search(text):
         return f"it makes the proof file unfit and refutes nothing ({part}: {text[:160]})"
     computed = text.startswith("it is not proved that ") or "computed as far as they go" in text
@@ -67,17 +74,82 @@ def judged(first, folder):
     return None
 
 
-def check(root):
-    """A pair for each edit of each crate: what it is, and its problem or None."""
-    for edit in sorted(glob.glob(os.path.join(root, "crates", "*", "must-fail", "*.edit"))):
-        crate = edit.split(os.sep)[-3]
-        label = os.path.basename(edit)[: -len(".edit")]
-        folder = os.path.join(root, "target", "must-fail", crate, label)
-        log = os.path.join(folder, ".log")
-        if not os.path.exists(log):
-            yield f"edit {crate}/{label}", "it was not tried"
-            continue
-        text = open(log, errors="replace").read()
-        yield f"edit {crate}/{label}", problem(text, folder)
-        for module in EACH.findall(open(edit).read()):
-            yield f"edit {crate}/{label}, each of {module}", problem_of_each(text, folder, module)
+def came_to(said):
+    """What rt ci said of each edit, by CRATE/NAME."""
+    return {found.group("name"): found.group("came") for found in TRIED.finditer(said)}
+
+
+def told(came):
+    """Whether what rt said of an edit settles it, and its problem or None. rt tells the first fact alone and cuts it short:
+    where that is none, or there is none, all that a check says has to be looked at."""
+    if came is None:
+        return True, "it was not tried"
+    if not came.startswith(REFUSED) or came.startswith(f"{REFUSED} ("):
+        return True, f"it is not refused by a fact: {came[:200]}"
+    first = next(errors([came[len(REFUSED) + 2 :]]), None)
+    return judged(first) is None, None
+
+
+def text_of(path):
+    with open(path, encoding="utf-8") as file:
+        return file.read()
+
+
+@contextlib.contextmanager
+def copied(root):
+    """The crates in a folder of their own, where an edit can be made. rt takes there what it has proved here."""
+    with tempfile.TemporaryDirectory(prefix="gridprofile-edits-") as work:
+        os.mkdir(os.path.join(work, ".git"))  # the top of a repository
+        for name in ("crates.txt", "HANDLES"):
+            if os.path.exists(os.path.join(root, name)):
+                shutil.copy(os.path.join(root, name), work)
+        for folder in glob.glob(os.path.join(root, "crates", "*", "")):
+            for part in filter(lambda part: os.path.isdir(os.path.join(folder, part)), PARTS):
+                shutil.copytree(os.path.join(folder, part), os.path.join(work, os.path.relpath(folder, root), part))
+        yield work
+
+
+def make(edit, folder):
+    """Makes an edit in a crate's folder, and returns what stood there before, file by file."""
+    path, old, before = "", "", {}
+    for line in text_of(edit).split("\n"):
+        word, _, rest = line.partition(":")
+        if word == "file":
+            path = os.path.join(folder, rest.strip())
+        elif word == "old":
+            old = rest.removeprefix(" ")
+        elif word == "new":
+            text = text_of(path)
+            before.setdefault(path, text)
+            with open(path, "w", encoding="utf-8") as file:
+                file.write(text.replace(old, rest.removeprefix(" ")))
+    return before
+
+
+def log_of(edit, crate, work):
+    """All that the check of a crate says with this edit."""
+    folder = os.path.join(work, "crates", crate)
+    before = make(edit, folder)
+    try:
+        pipe = {"stdin": subprocess.DEVNULL, "stdout": subprocess.PIPE, "stderr": subprocess.STDOUT}
+        return subprocess.run(["rt", "check"], cwd=folder, text=True, errors="replace", **pipe).stdout
+    finally:
+        for path, text in before.items():
+            with open(path, "w", encoding="utf-8") as file:
+                file.write(text)
+
+
+def check(root, said):
+    """A pair for each edit of each crate: what it is, and its problem or None, by what rt ci said. Where that does not tell,
+    and where an edit has a line `each:`, the edit is made in a copy and its crate checked."""
+    came = came_to(said)
+    with copied(root) as work:
+        for edit in sorted(glob.glob(os.path.join(root, "crates", "*", "must-fail", "*.edit"))):
+            crate = edit.split(os.sep)[-3]
+            name = f"{crate}/{os.path.basename(edit)[: -len('.edit')]}"
+            settled, wrong = told(came.get(name))
+            modules = EACH.findall(text_of(edit))
+            log = "" if wrong or (settled and not modules) else log_of(edit, crate, work)
+            yield f"edit {name}", wrong if settled else problem(log)
+            for module in modules:
+                yield f"edit {name}, each of {module}", wrong or problem_of_each(log, module)

@@ -1,5 +1,6 @@
 """The entries check: each listed entry asks for nothing and promises the one definition that the list names, of all
-its arguments and of its answer; its C function promises the same and makes one call; list, exports and header agree."""
+its arguments and of its answer; its C function promises the same and makes one call, of the library's function of its
+name, which promises the same and is the entry or makes one call of it; list, exports and header agree."""
 
 import glob
 import os
@@ -12,7 +13,8 @@ from source import Problem
 
 LIST = "docs/entries.txt"
 HEADER = "include/gridprofile.h"  # those of categories 3 and 5 stand beside it
-EXPORTS = "gridprofile"  # the crate of the C interface
+EXPORTS = "gridprofile_c"  # the crate of the C interface
+LIBRARY = "gridprofile"  # the crate with the same functions for callers in Rattle, each called by the one for C
 TESTED = "tiny_sizes"  # exports to the tests alone
 SIZES = "parameters.Categories"  # the definitions of the categories' sizes
 
@@ -20,6 +22,7 @@ LINE = re.compile(r"(\w+(?:::\w+)+)\s+(\w+|-)\s+(\w+\.\w+\.\w+)", re.A)
 ARRAY = re.compile(r"let mut (\w+) = \[ \d\w* ; ([\w .:()+*/%-]+) \] ; ")
 CALL = re.compile(r"(\w+(?: :: \w+)+) \( ([\w&, ]*)\)(?: ;)?")
 ANSWER = ("answer", "", "")
+RESULT = "result"  # the answer's name in contracts
 
 
 class Entry(NamedTuple):
@@ -50,9 +53,13 @@ def is_mutable(kind):
     return bool(re.match(r"& (?:'\w+ )?mut ", kind))
 
 
-def spelled(name):
-    """A parameter's name as contracts write it: with a `_` antt would take it for an operator."""
-    return f"«{name}»" if "_" in name else name
+def moments(kind):
+    """How a contract names what a parameter of this type is or points to."""
+    return ("old", "new") if is_mutable(kind) else ("now",) if is_reference(kind) else ("",)
+
+
+def at(name, moment):
+    return f"{name}.{moment}" if moment else name
 
 
 # ---- the function of a path
@@ -88,31 +95,26 @@ def promise(function, may_ask):
     _, label, tokens = next(clause for clause in function.clauses if clause[0] == "ensures")
     if label:
         raise Problem(f"the ensures of {name} has a label, {label}")
-    if len(tokens) < 6 or tokens[0] != "λ" or tokens[2:4] != (".", "⌜") or tokens[-1] != "⌝":
-        raise Problem(f"the ensures of {name} is not `λ r. ⌜ Name arguments ⌝`")
-    for token in tokens[4:-1]:
-        if token not in ("(", ")", ".entry", ".exit") and not re.match(r"[^\W_]|«", token):
+    for token in tokens or ("",):
+        if not re.fullmatch(r"[A-Za-z0-9]\w*(?:\.\w+)?|\(|\)", token):
             raise Problem(f"the ensures of {name} is not one name applied to arguments: it has `{token}`")
     return tokens
 
 
-def place(module, path):
+def place(path):
     """The file of definitions that a `ghost use` names, as CRATE.FILE, or nothing."""
-    own = re.fullmatch(r"Rattle·(\w+)·specs\.specs\.(\w+)", path)
-    if own and own.group(1) == module.path[0]:
-        return f"{own.group(1)}.{own.group(2)}"
-    other = re.fullmatch(r"Rattle·(\w+)\.specs\.(\w+)", path)
-    return f"{other.group(1)}.{other.group(2)}" if other else ""
+    found = re.fullmatch(r"Rattle\.(\w+)\.specs\.(\w+)", path)
+    return f"{found.group(1)}.{found.group(2)}" if found else ""
 
 
-def is_inner(module, path):
+def is_inner(path):
     """A file of promises that only inner functions make: no entry cites one."""
-    return place(module, path).split(".")[-1].startswith("Inner")
+    return place(path).split(".")[-1].startswith("Inner")
 
 
-def is_sizes(module, taken):
+def is_sizes(taken):
     """The one import that may have another name: the sizes of a category as `p`."""
-    return taken.local == "p" and place(module, taken.path) == SIZES and re.fullmatch(r"category\d+", taken.name)
+    return taken.local == "p" and place(taken.path) == SIZES and re.fullmatch(r"category\d+", taken.name)
 
 
 def definition(module, word):
@@ -121,53 +123,49 @@ def definition(module, word):
     if len(found) != 1:
         raise Problem(f"{module.file} imports {word} {len(found)} times, not once")
     taken = found[0]
-    if taken.name != word and not is_sizes(module, taken):
+    if taken.name != word and not is_sizes(taken):
         raise Problem(f"{module.file} imports {taken.name or taken.path} as {word}: another name")
     if any(other.local == taken.path.split(".")[0] for other in module.imports):
         raise Problem(f"{module.file} gives {taken.path.split('.')[0]} another meaning by an import")
-    if not place(module, taken.path) or is_inner(module, taken.path):
+    if not place(taken.path) or is_inner(taken.path):
         raise Problem(f"{module.file} imports {word} from {taken.path}, which is no file of a crate's definitions")
-    return f"{place(module, taken.path)}.{taken.name}"
+    return f"{place(taken.path)}.{taken.name}"
 
 
 def hides_nothing(function, module, tokens):
-    """No parameter, binder or imported operator gives another meaning to the words of a contract."""
-    where, binder, name = f"the ensures of {shown(function.path)}", tokens[1], tokens[4]
-    parameters = {spelled(parameter) for parameter, _ in function.parameters}
-    hidden = {"now", name} & {binder, *parameters} or {binder} & parameters
-    if hidden:
-        raise Problem(f"{hidden.pop()} in {where} is hidden by a parameter or by the answer")
+    """No parameter or imported operator gives another meaning to the words of a contract."""
+    where = f"the ensures of {shown(function.path)}"
+    hidden = {RESULT, tokens[0]} & {parameter for parameter, _ in function.parameters}
+    if tokens[0] == RESULT or hidden:
+        raise Problem(f"{RESULT if tokens[0] == RESULT else hidden.pop()} in {where} is hidden by a parameter or by the answer")
+    words = {part for token in tokens for part in (token, *token.split("."))}
     for taken in module.imports:
-        parts = taken.local.split("_") if "_" in taken.local and "«" not in taken.local else []
-        if taken.local == "now" or set(filter(None, parts)) & set(tokens):
+        parts = taken.local.split("◌") if "◌" in taken.local else []
+        if taken.local == RESULT or set(filter(None, parts)) & words:
             raise Problem(f"{module.file} imports {taken.local}, which takes a word of {where}")
 
 
 def words_of(tokens):
-    """The arguments of a contract one by one: a word and nothing, or of `(now (x .entry))` the word and the moment."""
-    rest = list(tokens)
-    while rest:
-        if rest[0] != "(":
-            yield rest.pop(0), ""
-        elif rest[:3] == ["(", "now", "("] and rest[4:7] in ([".entry", ")", ")"], [".exit", ")", ")"]):
-            yield rest[3], rest[4][1:]
-            del rest[:7]
-        else:
-            raise Problem(f"an argument, `{' '.join(rest[:5])} ..`, is not a name, `now (x .entry)` or `now (x .exit)`")
+    """The arguments of a contract one by one: a word and nothing, or of `x.now`, `x.old` or `x.new` the word and the moment."""
+    for token in tokens:
+        word, _, moment = token.partition(".")
+        if token in ("(", ")") or ("." in token and moment not in ("now", "old", "new")):
+            raise Problem(f"an argument, `{token}`, is not a name, `x.now`, `x.old` or `x.new`")
+        yield word, moment
 
 
-def meaning(function, module, binder, word, moment):
-    """What an argument of a contract speaks of. A parameter hides an import, and the binder both."""
-    parameters = {spelled(name): (name, kind) for name, kind in function.parameters}
-    name, kind = parameters.get(word, (word, ""))
+def meaning(function, module, word, moment):
+    """What an argument of a contract speaks of. A parameter hides an import."""
+    kinds = dict(function.parameters)
+    kind, where = kinds.get(word, ""), f"the ensures of {shown(function.path)}"
     if moment and not is_reference(kind):
-        raise Problem(f"{word} in the ensures of {shown(function.path)} is no reference")
-    if word in parameters and is_reference(kind) and not moment:
-        raise Problem(f"the ensures of {shown(function.path)} has {word} where now ({word} .entry) is meant")
-    if word == binder:
+        raise Problem(f"{word} in {where} is no reference")
+    if word in kinds and moment not in moments(kind):
+        raise Problem(f"{where} has {at(word, moment)} where {at(word, moments(kind)[0])} is meant")
+    if word == RESULT:
         return ANSWER
-    if word in parameters:
-        return "parameter", name, moment
+    if word in kinds:
+        return "parameter", word, moment
     if re.fullmatch(r"[0-9]+", word):
         return "number", word, ""
     return "definition", definition(module, word), ""
@@ -176,19 +174,16 @@ def meaning(function, module, binder, word, moment):
 def contract(function, module, may_ask=False):
     tokens = promise(function, may_ask)
     hides_nothing(function, module, tokens)
-    name = definition(module, tokens[4])
-    words = words_of(tokens[5:-1])
-    return Contract(name, [meaning(function, module, tokens[1], word, moment) for word, moment in words])
+    name = definition(module, tokens[0])
+    return Contract(name, [meaning(function, module, word, moment) for word, moment in words_of(tokens[1:])])
 
 
 def speaks_of_all(function, arguments):
     """A contract that leaves an argument or the answer out would hold whatever they are."""
     for name, kind in function.parameters:
-        moments = ["entry", "exit"] if is_mutable(kind) else ["entry"] if is_reference(kind) else [""]
-        for moment in moments:
+        for moment in moments(kind):
             if ("parameter", name, moment) not in arguments:
-                left = f"now ({name} .{moment})" if moment else name
-                raise Problem(f"the ensures of {shown(function.path)} leaves out {left}")
+                raise Problem(f"the ensures of {shown(function.path)} leaves out {at(name, moment)}")
     if function.result and ANSWER not in arguments:
         raise Problem(f"the ensures of {shown(function.path)} leaves out the answer")
 
@@ -228,15 +223,18 @@ def sizes(module):
 
 
 def has_own_sizes(tree, module):
-    """In the module of a category, P and p are the sizes of that category, and there are no others."""
+    """In the module of a category, P and p are the sizes of that category, and there are no others. What C calls lends
+    no sizes, and may do without P."""
     if not sizes(module):
         return
     constant = sizes(module).split(".")[-1].upper()
-    if [path for path, local in module.uses if local == "P"] != [("parameters", constant)] or "P" in module.items:
+    used = [path for path, local in module.uses if local == "P"]
+    needless = not used and module.path[0] == EXPORTS
+    if (used != [("parameters", constant)] and not needless) or "P" in module.items:
         raise Problem(f"P in {module.file} is not parameters::{constant}")
     names_a_crate(tree, module, "parameters")
-    taken = [each for each in module.imports if each.local == "p" or place(module, each.path) == SIZES]
-    if [(f"{place(module, each.path)}.{each.name}", each.local) for each in taken] != [(sizes(module), "p")]:
+    taken = [each for each in module.imports if each.local == "p" or place(each.path) == SIZES]
+    if [(f"{place(each.path)}.{each.name}", each.local) for each in taken] != [(sizes(module), "p")]:
         raise Problem(f"p in {module.file} is not {sizes(module)}, or other sizes are imported too")
 
 
@@ -245,7 +243,7 @@ def imports(tree, path):
     module, _ = tree.module(path[:-1])
     for taken in module.imports:
         named = taken.local == (taken.name or taken.path.split(".")[-1])
-        if not named and not is_sizes(module, taken) and not is_inner(module, taken.path):
+        if not named and not is_sizes(taken) and not is_inner(taken.path):
             raise Problem(f"{module.file} imports {taken.name or taken.path} as {taken.local}: another name")
     has_own_sizes(tree, module)
 
@@ -322,19 +320,33 @@ def promises_what_it_calls(tree, function, module, promised, call):
 
 
 def c_function(tree, entry):
-    """The C function of an entry keeps the same rules, and calls the entry where it is not itself the entry."""
+    """The C function of an entry keeps the same rules, and calls the library's function of its name."""
     modules = tree.modules(EXPORTS)
     paths = [found.path for module in modules for found in module.functions if found.path[-1] == entry.c_name]
     if not paths:
         raise Problem(f"crate {EXPORTS} does not export {entry.c_name}")
     function, module, promised = keeps(tree, paths[0], entry.contract)
-    if function.attributes != ("no_mangle",) or not function.extern:
-        raise Problem(f"{shown(function.path)} is not `#[no_mangle] pub extern \"C\"`")
+    if function.attributes != (source.EXPORTED,) or not function.extern:
+        raise Problem(f"{shown(function.path)} is not `#[unsafe(no_mangle)] pub extern \"C\"`")
     imports(tree, function.path)
     is_named_by_category(function, module)
     call = one_call(function)
-    if entry.path not in (function.path, call.path):
-        raise Problem(f"{shown(function.path)} calls {shown(call.path)}, and not the listed {shown(entry.path)}")
+    if call.path != (LIBRARY, *function.path[1:]):
+        raise Problem(f"{shown(function.path)} calls {shown(call.path)}, and not the function of its own name in {LIBRARY}")
+    promises_what_it_calls(tree, function, module, promised, call)
+    library_function(tree, entry, call.path)
+
+
+def library_function(tree, entry, path):
+    """What C's function calls keeps the same rules, and calls the entry where it is not itself the entry."""
+    function, module, promised = keeps(tree, path, entry.contract)
+    if function.attributes or function.extern:
+        raise Problem(f"{shown(path)} is not a plain function")
+    imports(tree, path)
+    is_named_by_category(function, module)
+    call = one_call(function)
+    if entry.path not in (path, call.path):
+        raise Problem(f"{shown(path)} calls {shown(call.path)}, and not the listed {shown(entry.path)}")
     promises_what_it_calls(tree, function, module, promised, call)
 
 
@@ -393,14 +405,15 @@ def listed_once(entries, entry):
 
 
 def exported(tree, listed, crate, name):
-    """An exported name is the interface's or the tests', is listed, and means one function in all files."""
+    """An exported name is the interface's or the tests', is listed, and means one function in all files, but the one of
+    the library that the interface calls."""
     if crate not in (EXPORTS, TESTED):
         raise Problem(f"crate {crate} exports {name} to C: only {EXPORTS} exports")
     if crate == EXPORTS and name not in listed:
         raise Problem(f"{LIST} lacks the exported {name}")
-    times = sum(module.names.count(name) for module in tree.modules())
-    if times != 1:
-        raise Problem(f"the exported {name} is declared {times} times in the files of all crates")
+    found = [module.path[0] for module in tree.modules() for each in module.names if each == name]
+    if sorted(found) != ([LIBRARY, crate] if crate == EXPORTS else [crate]):
+        raise Problem(f"the exported {name} is declared {len(found)} times in the files of all crates: in {', '.join(found)}")
 
 
 def judged(what, check, *arguments):

@@ -8,7 +8,15 @@ from typing import NamedTuple
 
 CLAUSES = ("requires", "ensures", "ghost")
 CLOSERS = {"(": ")", "[": "]", "{": "}"}
-ATTRIBUTES = {"fn": ("no_mangle",), "extern": ("no_mangle",), "struct": ("repr ( C )",), "enum": ("repr ( C )",)}
+EXPORTED = "unsafe ( no_mangle )"  # the attribute of a function that C sees
+# The attributes of each kind of item. None of them makes a function or changes its name but EXPORTED.
+DERIVED = r"derive \( \w+(?: , \w+)* \)"
+ATTRIBUTES = {
+    "fn": r"cycle \( \w+ \)|" + re.escape(EXPORTED),
+    "extern": re.escape(EXPORTED),
+    "struct": r"repr \( C \)|" + DERIVED,
+    "enum": r"repr \( C \)|" + DERIVED,
+}
 ITEMS = ("mod", "use", "ghost", "const", "type", "struct", "enum", "impl")
 KEYWORDS = (*CLAUSES, *ATTRIBUTES, *ITEMS, "pub", "static", "unsafe", "trait", "let", "mut", "as")
 
@@ -19,7 +27,7 @@ CODE = re.compile(
     r"""b"(?:[^"\\]|\\.)*"                      # a byte string
     | b'(?:[^'\\\n]|\\x[0-9a-fA-F]{2}|\\.)'     # a byte
     | '[A-Za-z_]\w*(?![\w'])                    # a lifetime or a label
-    | "C"                                       # the one text, after `extern`
+    | "(?:[^"\\]|\\.)*"                       # a text, as after `extern`
     | [A-Za-z_]\w* | [0-9]\w* | :: | -> | [][!%&()*+,./:;<=>?@^{|}\#-]""",
     re.X | re.S | re.A,
 )
@@ -82,8 +90,8 @@ def split(tokens):
 
 
 def unquoted(token):
-    """A name in « » is that name, unless it would mean something else without: a sign, or with `_` an operator."""
-    return re.sub(r"«([A-Za-z][A-Za-z0-9]*)»", r"\1", token)
+    """A name in « » is that name, unless it would mean something else without: a sign."""
+    return re.sub(r"«([A-Za-z]\w*)»", r"\1", token, flags=re.A)
 
 
 class Reader:
@@ -165,10 +173,19 @@ class Reader:
                 return tokens
 
     def file(self):
+        if self.peek() == "#" and self.text.startswith("#!", self.at):
+            self.tactic()
         self.items(self.module.path)
         if self.peek():
             self.fail("a brace closes nothing")
         self.module.names = [name for word, name in zip(self.taken, self.taken[1:]) if word == "fn"]
+
+    def tactic(self):
+        """`#![tactic(auto)]` at the head of a file: by it the check tries its tactics."""
+        self.take("#")
+        self.take("!")
+        if self.group("[")[1:-1] != ["tactic", "(", "auto", ")"]:
+            self.fail("unknown attribute of a file")
 
     def items(self, path):
         while self.peek() not in ("", "}"):
@@ -182,7 +199,7 @@ class Reader:
         public = self.visibility()
         word = self.peek()
         for attribute in attributes:
-            if attribute not in ATTRIBUTES.get(word, ()):
+            if not re.fullmatch(ATTRIBUTES.get(word, ""), attribute):
                 self.fail(f"unknown attribute {attribute} of {word}")
         if word in ("fn", "extern"):
             self.module.functions.append(self.function(path, public, tuple(attributes)))
@@ -222,16 +239,32 @@ class Reader:
         self.block(path + (" ".join(self.until("{")),))
 
     def item_use(self, *_):
-        path = [self.name()]
+        self.tree(())
+        self.take(";")
+
+    def tree(self, path):
+        """What a `use` names from this path on: one name, or several in braces."""
+        path += (self.name(),)
         while self.peek() == "::":
             self.take()
-            path.append(self.name())
+            if self.peek() == "{":
+                return self.branches(path)
+            path += (self.name(),)
         local = path[-1]
+        if local == "self":
+            self.fail("a `use` of self")
         if self.peek() == "as":
             self.take()
             local = self.name()
-        self.take(";")
-        self.module.uses.append((tuple(path), local))
+        self.module.uses.append((path, local))
+
+    def branches(self, path):
+        self.take("{")
+        while self.peek() != "}":
+            self.tree(path)
+            if self.peek() != "}":
+                self.take(",")
+        self.take("}")
 
     def item_ghost(self, *_):
         self.take("use")
@@ -346,7 +379,7 @@ class Tree:
     def exports(self):
         """The functions that are exported to C: (crate, name)."""
         functions = (function for module in self.modules() for function in module.functions)
-        return [(found.path[0], found.path[-1]) for found in functions if "no_mangle" in found.attributes]
+        return [(found.path[0], found.path[-1]) for found in functions if EXPORTED in found.attributes]
 
     def file(self, path):
         found = self.files.get(path) or Problem(f"there is no file for {'::'.join(path)}")
