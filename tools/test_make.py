@@ -12,7 +12,7 @@ import unittest
 
 ROOT = os.path.dirname(os.path.dirname(os.path.abspath(__file__)))
 MAKE = shutil.which("make")
-TOOLS = "awk cat dirname expand find mkdir rm sed setsid sha256sum sort tail wc".split()
+TOOLS = "awk cat cp dirname expand find grep mkdir rm sed setsid sh sha256sum sleep sort tail wc".split()
 NEEDS = {
     "demo": ["rt", "gcc"],
     "cli": ["rt", "gcc"],
@@ -25,57 +25,40 @@ NEEDS = {
 WHAT = {"rt": "the Rattle toolchain", "gcc": "the C compiler", "g++": "the C++ compiler", "ld": "of binutils",
         "size": "of binutils", "cargo": "Rust's build tool"}
 
-# Four crates of these are the library: one, two, three and gridprofile.
+# Four crates of these are the library: one, two, three and gridprofile_c.
 CRATES = """# A line for each crate: its name, then the crates that it rests on.
 one:
 spare: one
 two: one io  # and a library of the kit
 three: two one libc
-gridprofile: three
-above: gridprofile three
+gridprofile_c staticlib: three
+above: three
 """
 
-# Writes the files and lines that rt writes. A crate with a stamp is unchanged; HANG and FAIL name a crate.
+# Writes the files and lines that rt writes. A library with a stamp is unchanged; HANG and FAIL name a crate.
 RT = """#!/bin/sh
 [ "$1" != version ] || { echo "kit $KIT"; exit; }
-echo "rt $*" >> calls
-mkdir -p target/log target/stamp target/staticlib
-failed=
-for name in one two three; do
-    echo failed > target/log/$name.res
-    if [ -e target/stamp/$name ]; then
-        echo "rt: $name proved (unchanged since it was last proved)" >&2
-        echo proved > target/log/$name.res
-        continue
-    fi
-    [ "$name" != "$HANG" ] || /bin/sh -c 'echo $$ $PPID > pids; : > target/log/$HANG.say; exec sleep 10'
-    echo "logic=proved of $name" > target/log/$name.say
-    cat target/log/$name.say >&2
-    if [ "$name" = "$FAIL" ]; then
-        failed="$failed $name"
-        echo "rt: $name NOT PROVED (exit 1, 0 s)" >&2
-        continue
-    fi
-    echo "rt: $name proved (0 s)" >&2
-    echo "stamp" > target/stamp/$name
-    echo proved > target/log/$name.res
-done
-[ -z "$failed" ] || { for line in 1 2 3 4 5 6 7 8 9 10; do echo; echo; done; echo "rt: FAILED:$failed"; exit 1; }
-echo "logic=proved of gridprofile" > target/log/gridprofile.say
-cat target/log/gridprofile.say
-echo archive > target/staticlib/libgridprofile.a
-echo "rt: target/staticlib/libgridprofile.a has the functions of gridprofile"
+name=${PWD##*/}
+echo "rt $* of $name" >> "$CALLS"
+mkdir -p out
+[ ! -e out/stamp ] || exit 0
+echo "rt: $name: begins with what a check kept in another folder"
+[ "$name" != "$HANG" ] || /bin/sh -c 'echo $$ $PPID > "$PIDS"; echo "rt: chose --jobs 2 for $HANG"; exec sleep 10'
+echo "rt: chose --jobs 2 for $name" >&2
+if [ "$name" = "$FAIL" ]; then
+    for line in 1 2 3 4 5 6 7 8 9 10; do echo; echo; done
+    echo "logic=not-proved"
+    exit 1
+fi
+echo "crate $name: modules loaded=1 checked=2"
+echo "logic=proved of $name"
+if [ "$name" = gridprofile_c ]; then echo archive > out/lib$name.a; else echo stamp > out/stamp; fi
 """
 # Writes the file that it is to write, which is its last word.
 GCC = """#!/bin/sh
 echo "gcc" >> calls
 for last; do :; done
 echo program > "$last"
-"""
-# A look at the crates is due each second, which is long for a test.
-SLEEP = f"""#!/bin/sh
-[ "$1" != 1 ] || set -- 0.1
-exec {shutil.which("sleep")} "$@"
 """
 OTHER = """#!/bin/sh
 echo "${0##*/}" >> "${CALLS:?}"
@@ -105,14 +88,14 @@ class Make(unittest.TestCase):
         os.makedirs(self.file("peer/c"))
         self.write("peer/c/stack.c", "")
         self.write("crates.txt", CRATES)
-        for name in ("one", "two", "three", "gridprofile"):
+        for name in ("one", "two", "three", "gridprofile_c"):
             self.write(f"crates/{name}/src/lib.rt", f"// {name}\n")
         self.program("tools/demo", 'echo "demo $1"')
         self.program("tools/gate", 'echo "gate"')
         os.mkdir(self.path)
         for tool in TOOLS:
             os.symlink(shutil.which(tool), os.path.join(self.path, tool))
-        for name, text in {"rt": RT, "gcc": GCC, "sleep": SLEEP}.items():
+        for name, text in {"rt": RT, "gcc": GCC}.items():
             self.program(os.path.join(self.path, name), text)
         for name in ("g++", "ld", "size", "cargo", "valgrind", "python3"):
             self.program(os.path.join(self.path, name), OTHER)
@@ -137,7 +120,7 @@ class Make(unittest.TestCase):
             return ""
 
     def start(self, *words, **environment):
-        env = {"PATH": self.path, "CALLS": self.file("calls"), "KIT": "1", "HANG": "", "FAIL": "", **environment}
+        env = {"PATH": self.path, "CALLS": self.file("calls"), "PIDS": self.file("pids"), "KIT": "1", "HANG": "", "FAIL": "", **environment}
         pipes = {"stdout": subprocess.PIPE, "stderr": subprocess.STDOUT, "text": True, "start_new_session": True}
         # where these tests run in the background interrupts are ignored, and a shell cannot undo that
         heed = lambda: signal.signal(signal.SIGINT, signal.SIG_DFL)  # noqa: E731
@@ -199,7 +182,8 @@ class Missing(Make):
 
 
 class Progress(Make):
-    STEPS = ["1 of 4: one", "2 of 4: two", "3 of 4: three", "4 of 4: gridprofile"]
+    STEPS = ["1 of 4: one", "2 of 4: two", "3 of 4: three", "4 of 4: gridprofile_c"]
+    CALLS = [f"rt lib of {name}" for name in ("one", "two", "three", "gridprofile_c")]
 
     def steps(self, lines):
         return [line for line in lines if " of 4: " in line]
@@ -210,7 +194,7 @@ class Progress(Make):
         self.assertIn("4 crates", lines[0])
         self.assertIn("ten minutes", lines[0])
         self.assertEqual(lines[2], self.STEPS[0])
-        self.assertEqual(self.calls(), ["rt staticlib gridprofile", "gcc"])
+        self.assertEqual(self.calls(), [*self.CALLS, "gcc"])
         self.assertEqual(self.read("target/cli/gridprofile"), "program\n")
 
     def test_the_provers_lines_are_in_the_log_alone(self):
@@ -218,7 +202,7 @@ class Progress(Make):
         self.assertNotIn("logic=proved", printed)
         self.assertNotIn("rt: ", printed)
         log = self.read("target/prove.log")
-        for name in ("one", "two", "three", "gridprofile"):
+        for name in ("one", "two", "three", "gridprofile_c"):
             self.assertIn(f"logic=proved of {name}\n", log)
         self.assertIn("target/prove.log", printed)
 
@@ -229,7 +213,7 @@ class Progress(Make):
 
     def test_bench_proves_in_the_same_way(self):
         self.assertEqual(self.steps(self.made("bench")), self.STEPS)
-        self.assertEqual(self.calls(), ["rt staticlib gridprofile", "gcc", "cargo"])
+        self.assertEqual(self.calls(), [*self.CALLS, "gcc", "cargo"])
 
 
 class Again(Make):
@@ -246,24 +230,27 @@ class Again(Make):
         self.assertIn("nothing has changed", lines[0])
         self.assertEqual(self.calls(), [])
         self.write("crates/two/must-fail/wrong.edit", "is not read by the archive\n")
+        self.write("crates/two/out/kept", "is rt's own\n")
         self.assertEqual((self.made("cli"), self.calls()), (lines, []))
 
     def test_something_has_changed(self):
         for path, text in (
             ("crates/one/src/lib.rt", "// new\n"),
-            ("crates/gridprofile/src/lib.rt", "// new\n"),
+            ("crates/gridprofile_c/src/lib.rt", "// new\n"),
             ("crates/two/proofs/New.antt", ""),
             ("crates.txt", CRATES.replace("three: two one", "three: one two")),
             ("target/staticlib/libgridprofile.a", "another\n"),
         ):
             with self.subTest(path):
                 self.write(path, text)
-                self.assertIn("1 of 4: one, unchanged", self.made("cli"))
-                self.assertIn("rt staticlib gridprofile", self.calls())
+                lines = self.made("cli")
+                self.assertIn("1 of 4: one, unchanged", lines)
+                self.assertIn("4 of 4: gridprofile_c", lines)
+                self.assertIn("rt lib of gridprofile_c", self.calls())
 
     def test_the_toolchain_has_changed(self):
         self.made("cli", KIT="2")
-        self.assertIn("rt staticlib gridprofile", self.calls())
+        self.assertIn("rt lib of gridprofile_c", self.calls())
 
 
 class Failure(Make):
@@ -271,14 +258,14 @@ class Failure(Make):
         status, output = self.make("demo", FAIL="two")
         self.assertNotEqual(status, 0)
         self.assertIn("rt failed. The end of target/prove.log:\n", output)
-        self.assertIn("rt: FAILED: two\n", output)
-        self.assertNotIn("rt: one proved", output)
-        self.assertEqual(self.calls(), ["rt staticlib gridprofile"])
+        self.assertIn("logic=not-proved\n", output)
+        self.assertNotIn("logic=proved of one", output)
+        self.assertEqual(self.calls(), ["rt lib of one", "rt lib of two"])
 
     def test_it_fails_again(self):
         self.made("cli")
         self.write("crates/two/src/lib.rt", "// wrong\n")
-        os.remove(self.file("target/stamp/two"))
+        os.remove(self.file("crates/two/out/stamp"))
         for _ in range(2):
             self.assertNotEqual(self.make("cli", FAIL="two")[0], 0)
 
