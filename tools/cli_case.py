@@ -12,7 +12,7 @@ import unittest
 ROOT = os.path.dirname(os.path.dirname(os.path.abspath(__file__)))
 PROGRAM = os.environ.get("GRIDPROFILE_PROGRAM", os.path.join(ROOT, "target/cli/gridprofile"))
 ARCHIVE = os.environ.get("GRIDPROFILE_ARCHIVE", os.path.join(ROOT, "target/staticlib/libgridprofile.a"))
-PREVIEW = os.environ.get("GRIDPROFILE_PREVIEW", os.path.join(ROOT, "target/bin/preview_main"))
+PREVIEW = os.environ.get("GRIDPROFILE_PREVIEW", os.path.join(ROOT, "crates/preview_main/out/preview_main"))
 
 WRONG_USAGE = 64
 DAMAGED_STORE = 65

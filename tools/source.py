@@ -28,7 +28,7 @@ CODE = re.compile(
     | b'(?:[^'\\\n]|\\x[0-9a-fA-F]{2}|\\.)'     # a byte
     | '[A-Za-z_]\w*(?![\w'])                    # a lifetime or a label
     | "(?:[^"\\]|\\.)*"                       # a text, as after `extern`
-    | [A-Za-z_]\w* | [0-9]\w* | :: | -> | [][!%&()*+,./:;<=>?@^{|}\#-]""",
+    | [A-Za-z_]\w*(?![\w"'\#]) | [0-9]\w* | :: | -> | [][!%&()*+,./:;<=>?@^{|}\#-]""",
     re.X | re.S | re.A,
 )
 # Contracts and the trees of `ghost use` are antt's: a name is any run without these signs, or stands in « »; joined by

@@ -13,57 +13,55 @@ import sizes  # noqa: E402
 import source  # noqa: E402
 import stacks  # noqa: E402
 
-FOLDER = "/r/target/must-fail/laws/x"
-
 
 class Edits(unittest.TestCase):
     def judge(self, log):
-        return edits.problem(log, FOLDER)
+        return edits.problem(log)
 
     def test_a_fact_that_fails_counts(self):
         for said in (
-            "proofs/hex/Proof.antt:21:23: error: `read`: `search`: no proof of `a < b`",
-            "specs/Table.antt:3:1: error: `t`: computed as far as they go, the two types differ",
+            "./proofs/hex/Answers.antt:21:23: error: `read`: `search`: no proof of `a < b`",
+            "specs/Table.antt:3:1: error: `t`: as printed, the two types differ\n  computed as far as they go, the two types differ",
         ):
-            self.assertIsNone(self.judge(f"{FOLDER}/{said}\n"))
+            self.assertIsNone(self.judge(f"{said}\n"))
 
-    def test_a_need_that_rattle_does_not_prove_counts(self):
+    def test_a_goal_that_rattle_does_not_prove_counts(self):
         said = "it is not proved that what the function ensures holds when it returns (`returns`)"
-        self.assertIsNone(self.judge(f"fn a::b: proved\nnote: {FOLDER}/src/lib.rt:3:1: {said}\n"))
+        self.assertIsNone(self.judge(f"fn a::b: proved\nnote: src/lib.rt:3:1: {said}\n"))
 
     def test_an_unfit_proof_file_does_not_count(self):
         for said in (
-            "`r`: `tie` has no `Need-x` that can be named from here",
-            "`spec`: expected type `tie.Need-returns`, but this has type `tie.Need-mul-result`",
-            "`spec`: the two types differ\n  expected type `tie.Need-a`, but this has type `tie.Need-b`",
+            "`r`: `goal.x`: module `Rattle.laws.proofs.hex.Goals` has no `x` that can be named from here",
+            "`r`: expected type `goal.returns`, but this has type `goal.overflow_mul`",
+            "`r`: the two types differ\n  expected type `Rattle.laws.proofs.hex.Goals.a`\n  but this has type `Rattle.laws.proofs.hex.Goals.b`",
             "`returns`: record `Lts.Else1`\n  has no field `args`",
             "`returns`: `x` is not in scope",
         ):
-            self.assertIsNotNone(self.judge(f"{FOLDER}/proofs/hex/Proof.antt:2:3: error: {said}\n"))
+            self.assertIsNotNone(self.judge(f"./proofs/hex/Answers.antt:2:3: error: {said}\n"))
 
     def test_an_edit_that_does_not_parse_does_not_count(self):
         for said in (
             "specs/Hex.antt:13:1: error: the `(` at 12:16 is never closed",
-            "specs/Hex.antt:12:16: error: `hexOf`: expected type `Bool`, but this has type `ℕ`",
+            "specs/Hex.antt:12:16: error: `hex_of`: expected type `Bool`, but this has type `ℕ`",
             "src/lib.rt:33:17: error[unknown-name]: cannot find type `u9` in this scope",
         ):
-            self.assertIsNotNone(self.judge(f"{FOLDER}/{said}\n"))
+            self.assertIsNotNone(self.judge(f"{said}\n"))
 
     def test_the_first_error_decides(self):
-        fact = f"{FOLDER}/proofs/a/Proof.antt:1:1: error: `search`: no proof\n"
-        unfit = f"{FOLDER}/proofs/b/Proof.antt:1:1: error: nothing that can be named from here\n"
+        fact = "./proofs/a/Answers.antt:1:1: error: `search`: no proof\n"
+        unfit = "./proofs/b/Answers.antt:1:1: error: nothing that can be named from here\n"
         self.assertIsNone(self.judge(fact + unfit))
         self.assertIsNotNone(self.judge(unfit + fact))
 
     def test_a_log_without_an_error_does_not_count(self):
         self.assertIsNotNone(self.judge("logic=not-proved\n"))
 
-    NOTE = f"note: {FOLDER}/src/more.rt:3:1: it is not proved that what the function ensures holds\n"
-    ERROR = f"{FOLDER}/proofs/more/c/Proof.antt:4:2: error: `returns`: expected type `A`\n"
+    NOTE = "note: src/more.rt:3:1: it is not proved that what the function ensures holds\n"
+    ERROR = "./proofs/more/c/Answers.antt:4:2: error: `returns`: expected type `A`\n"
 
     def judge_each(self, *lines, module="laws::more"):
         log = "".join(lines)
-        return edits.problem(log, FOLDER) or edits.problem_of_each(log, FOLDER, module)
+        return edits.problem(log) or edits.problem_of_each(log, module)
 
     def test_each_function_of_a_module_is_refused(self):
         a, b = (f"{self.NOTE}fn laws::more::{name}: no proof: expected x\n" for name in "ab")
@@ -79,9 +77,107 @@ class Edits(unittest.TestCase):
 
     def test_each_function_is_refused_by_a_fact(self):
         a = f"{self.NOTE}fn laws::more::a: no proof: expected x\n"
-        unfit = f"{FOLDER}/proofs/more/b/Proof.antt:1:1: error: nothing that can be named from here\n"
-        for before in ("", unfit, f"{FOLDER}/src/more.rt:3:1: error[x]: cannot find type `u9`\n", self.ERROR):
+        unfit = "./proofs/more/b/Answers.antt:1:1: error: nothing that can be named from here\n"
+        for before in ("", unfit, "src/more.rt:3:1: error[x]: cannot find type `u9`\n", self.ERROR):
             self.assertIn("laws::more::b", self.judge_each(a, before, "fn laws::more::b: no proof: expected x\n"))
+
+
+# rt ci and rt check in a repository of one crate. What rt check says stands in the source, which the edits change.
+WRONG = "proofs/one/Answers.antt:1:1: error: `returns`: `search`: no proof"
+UNFIT = "proofs/one/Answers.antt:1:1: error: `x` is not in scope"
+SAID_OF = {
+    "fact": f"refused, as it must be: ./{WRONG}",
+    "cut": "refused, as it must be: specs/Laws.antt:1:1: error: `t`: as printed, the two types differ",
+    "bare": "refused, as it must be",
+    "unfit": f"refused, as it must be (only because a proof file names what the edit took away): {UNFIT}",
+    "limit": "refused, as it must be (only by a limit of the prover, which gave no verdict)",
+    "bad": "BAD EDIT: an 'old:' text is in src/lib.rt 0 times, and not once",
+    "proved": "NOT REFUSED: the crate is still proved with this edit",
+    "untried": "NOT TRIED: its check was killed",
+}
+CHECK = """#!/bin/sh
+echo "$*" >> "$CALLS"
+cat src/lib.rt
+"""
+
+
+class Tries(unittest.TestCase):
+    """The check over what rt ci said of each edit."""
+
+    def setUp(self):
+        folder = tempfile.TemporaryDirectory()
+        self.addCleanup(folder.cleanup)
+        self.root, self.calls = os.path.join(folder.name, "root"), os.path.join(folder.name, "calls")
+        self.write("root/crates.txt", "laws:\n")
+        self.write("root/crates/laws/src/lib.rt", "fn laws::one: proved\n")
+        self.write("bin/rt", CHECK)
+        os.chmod(os.path.join(folder.name, "bin/rt"), 0o755)
+        old = dict(os.environ)
+        self.addCleanup(lambda: (os.environ.clear(), os.environ.update(old)))
+        os.environ.update(PATH=f"{os.path.join(folder.name, 'bin')}:{old['PATH']}", CALLS=self.calls)
+
+    def write(self, path, text):
+        path = os.path.join(os.path.dirname(self.root), path)
+        os.makedirs(os.path.dirname(path), exist_ok=True)
+        with open(path, "w") as file:
+            file.write(text)
+
+    def edit(self, name, new, *more):
+        old = "file: src/lib.rt\nold: fn laws::one: proved\n"
+        self.write(f"root/crates/laws/must-fail/{name}.edit", "".join(f"{line}\n" for line in more) + f"{old}new: {new}\n")
+
+    def problems(self, **said):
+        """What the check finds, and how often rt was called for it."""
+        output = "".join(f"rt: must-fail laws/{name}.edit: {SAID_OF[word]}\n" for name, word in said.items())
+        found = dict(edits.check(self.root, f"rt: laws proved\n{output}2 passed, 0 failed\n"))
+        with open(os.path.join(self.root, "crates/laws/src/lib.rt")) as file:
+            self.assertEqual(file.read(), "fn laws::one: proved\n")
+        return found, self.times()
+
+    def times(self):
+        try:
+            with open(self.calls) as file:
+                return file.read().splitlines().count("check")
+        except FileNotFoundError:
+            return 0
+
+    def test_what_rt_says_is_enough(self):
+        said = {name: name for name in SAID_OF if name not in ("cut", "bare")}
+        for name in said:
+            self.edit(name, WRONG)
+        found, times = self.problems(**said)
+        self.assertEqual(times, 0)
+        self.assertIsNone(found.pop("edit laws/fact"))
+        self.assertEqual(sorted(found), [f"edit laws/{name}" for name in sorted(said) if name != "fact"])
+        self.assertTrue(all("not refused by a fact" in problem for problem in found.values()), found)
+
+    def test_an_edit_that_was_not_tried(self):
+        self.edit("lost", WRONG)
+        self.assertEqual(self.problems(), ({"edit laws/lost": "it was not tried"}, 0))
+
+    def test_where_rt_says_too_little_it_is_checked(self):
+        for word in ("cut", "bare"):
+            for new, well in ((WRONG, True), (UNFIT, False), ("logic=not-proved", False)):
+                self.edit("one", new)
+                found, _ = self.problems(one=word)
+                self.assertEqual(found["edit laws/one"] is None, well, (word, new, found))
+
+    def test_each_is_checked(self):
+        self.edit("one", f"{WRONG}", "each: laws")
+        found, times = self.problems(one="fact")
+        self.assertEqual((found["edit laws/one"], times), (None, 1))
+        self.assertIn("no function of laws", found["edit laws/one, each of laws"])
+        self.edit("one", "note: src/lib.rt:1:1: it is not proved that x", "each: laws::one", "each: laws::two")
+        self.write("root/crates/laws/src/lib.rt", "fn laws::one: proved\nfn laws::one: no proof\n")
+        output = f"rt: must-fail laws/one.edit: {SAID_OF['fact']}\n"
+        found = dict(edits.check(self.root, output))
+        self.assertIsNone(found["edit laws/one, each of laws::one"])
+        self.assertIn("no function of laws::two", found["edit laws/one, each of laws::two"])
+
+    def test_each_of_an_edit_that_rt_does_not_refuse(self):
+        self.edit("one", WRONG, "each: laws")
+        found, times = self.problems(one="proved")
+        self.assertEqual(([problem is None for problem in found.values()], times), ([False, False], 0))
 
 
 class Power(unittest.TestCase):
@@ -175,23 +271,26 @@ class Stacks(unittest.TestCase):
 
 # A small repository: an entry that C calls through another crate, one where the sizes of a category decide, and one for
 # callers in Rattle.
-ONE = "ensures { λ r. ⌜ One classes 7 (now (line .entry)) (now (out .entry)) count r (now (out .exit)) ⌝ }"
-TWO = "ensures { λ r. ⌜ Two p (now (block .entry)) (now (out .entry)) r (now (out .exit)) ⌝ }"
-THREE = "ensures { λ _. ⌜ Three (now (state .entry)) «last_word» (now (state .exit)) ⌝ }"
+ONE = "ensures { One classes 7 line.now out.old count result out.new }"
+TWO = "ensures { Two p block.now out.old result out.new }"
+THREE = "ensures { Three state.old last_word state.new }"
 HEAD = "pub fn one(line: &[u8], out: &mut [u8], count: u32) -> u8"
 INNER = f"""// The entry. /* no comment begins here
+#![tactic(auto)]
+
 pub mod more;
 
 use outcome::BAD_SIZE as BAD;
-ghost use mathlib.Core.Path.{{_≡_}};
-ghost use Rattle·inner·specs.specs.Promises.{{
+use outcome::{{BAD_FIELD, lists::{{Part, part as piece}}, FULL}};
+ghost use Rattle.std.specs.Prelude.{{◌≡◌}};
+ghost use Rattle.inner.specs.Promises.{{
   One,
   classes,
 }};
 
 pub const SIZES: [usize; 2] = [1, 2];
 
-#[repr(C)]
+#[derive(Clone, Copy)]
 pub struct Pair<'a> {{
     pub first: &'a [u8],
 }}
@@ -203,10 +302,11 @@ pub struct Pair<'a> {{
     look(b"}} // /* \\" pub fn one() {{", b'"', b'\\'', line)
 }}
 
+#[cycle(looks)]
 fn look<'a>(text: &'a [u8], mut quote: u8, prime: u8, line: &'a [u8]) -> u8
-    requires {{ ⌜ quote ≡ prime ⌝ }}
-    ensures kept {{ λ r. ⌜ r ≡ quote ⌝ }}
-    ensures {{ λ r. ⌜ r ≡ prime ⌝ }}
+    requires {{ quote ≡ prime }}
+    ensures kept {{ result ≡ quote }}
+    ensures {{ IfOk result (λ n. n ≡ prime) }}
 {{
     'outer: while quote < 1 {{
         break 'outer;
@@ -218,7 +318,7 @@ mod beside {{
     pub fn other() {{}}
 }}
 """
-MORE = f"""ghost use Rattle·inner·specs.specs.Promises.{{Three}};
+MORE = f"""ghost use Rattle.inner.specs.Promises.{{Three}};
 
 pub fn three(state: &'a mut [u64], last_word: u8)
     {THREE}
@@ -226,49 +326,58 @@ pub fn three(state: &'a mut [u64], last_word: u8)
 }}
 """
 DEEP = f"""use parameters::Params;
-ghost use Rattle·deep·specs.specs.Entries.{{Two}};
+ghost use Rattle.deep.specs.Entries.{{Two}};
 
 pub fn two(p: Params, block: &[u8], room: &mut [u8], out: &mut [u8]) -> u8
-    requires needed {{ ⌜ Room p (now room) ⌝ }}
+    requires needed {{ Room p room.old }}
     {TWO}
 {{
     fill(p, block, room, out)
 }}
 
 {HEAD}
-    requires {{ ⌜ Odd count ⌝ }}
-    ensures {{ λ r. ⌜ Two count (now (line .entry)) (now (out .entry)) r (now (out .exit)) ⌝ }}
+    requires {{ Odd count }}
+    ensures {{ Two count line.now out.old result out.new }}
 {{
     0
 }}
 """
-INTERFACE = f"""pub mod category1;
+LIBRARY = f"""pub mod category1;
 
-ghost use Rattle·inner.specs.Promises.{{One, classes}};
+ghost use Rattle.inner.specs.Promises.{{One, classes}};
 
-#[no_mangle]
-pub extern "C" fn gridprofile_one(line: &[u8], out: &mut [u8], count: u32) -> u8
-    {ONE.replace(" r", " answer")}
+{HEAD.replace("one", "gridprofile_one")}
+    {ONE}
 {{
     inner::one(line, out, count)
 }}
 """
+EXPORT = '#[unsafe(no_mangle)]\npub extern "C" fn'
+INTERFACE = LIBRARY.replace("pub fn", EXPORT).replace("inner::one", "gridprofile::gridprofile_one")
 CATEGORY = f"""use parameters::CATEGORY1 as P;
-ghost use Rattle·parameters.specs.Categories.{{category1 as p}};
-ghost use Rattle·deep.specs.Entries.{{Two}};
+ghost use Rattle.parameters.specs.Categories.{{category1 as p}};
+ghost use Rattle.deep.specs.Entries.{{Two}};
 
 const ROOM: usize = P.n * 2;
 
-#[no_mangle]
-pub extern "C" fn gridprofile_two(block: &[u8], out: &mut [u8]) -> u8
+pub fn gridprofile_two(block: &[u8], out: &mut [u8]) -> u8
     {TWO}
 {{
     let mut scratch = [0u8; (ROOM + 8) * 2];
     deep::entry::two(P, block, &mut scratch, out)
 }}
 """
+C_CATEGORY = f"""ghost use Rattle.parameters.specs.Categories.{{category1 as p}};
+ghost use Rattle.deep.specs.Entries.{{Two}};
+
+{EXPORT} gridprofile_two(block: &[u8], out: &mut [u8]) -> u8
+    {TWO}
+{{
+    gridprofile::category1::gridprofile_two(block, out)
+}}
+"""
 PROMISES = """-- What crate inner promises ("promises").
-use Prim.Native.Nat.{ℕ}
+use Rattle.std.specs.Prelude.{ℕ}
 
 abbrev pub classes : ℕ
 classes = 3
@@ -299,7 +408,9 @@ CATEGORIES = "abbrev pub category1 : Params\nabbrev pub category3 : Params\n"
 REPOSITORY = {
     entries.LIST: LIST,
     entries.HEADER: HEADER,
-    "crates/gridprofile/src/lib.rt": INTERFACE,
+    "crates/gridprofile_c/src/lib.rt": INTERFACE,
+    "crates/gridprofile_c/src/category1.rt": C_CATEGORY,
+    "crates/gridprofile/src/lib.rt": LIBRARY,
     "crates/gridprofile/src/category1.rt": CATEGORY,
     "crates/inner/src/lib.rt": INNER,
     "crates/inner/src/more.rt": MORE,
@@ -314,7 +425,8 @@ REPOSITORY = {
 }
 INNER_FILE, MORE_FILE = "crates/inner/src/lib.rt", "crates/inner/src/more.rt"
 DEEP_FILE = "crates/deep/src/entry.rt"
-INTERFACE_FILE, CATEGORY_FILE = "crates/gridprofile/src/lib.rt", "crates/gridprofile/src/category1.rt"
+INTERFACE_FILE, C_CATEGORY_FILE = "crates/gridprofile_c/src/lib.rt", "crates/gridprofile_c/src/category1.rt"
+LIBRARY_FILE, CATEGORY_FILE = "crates/gridprofile/src/lib.rt", "crates/gridprofile/src/category1.rt"
 PROMISES_FILE, ENTRIES_FILE = "crates/inner/specs/Promises.antt", "crates/deep/specs/Entries.antt"
 
 
@@ -415,69 +527,73 @@ class Promises(Repository):
         self.refuses("inner::one is not public", INNER_FILE, HEAD, HEAD.replace("pub ", ""))
 
     def test_it_asks_for_nothing(self):
-        asked, named = "requires { ⌜ Odd count ⌝ }", "requires needed { ⌜ Odd count ⌝ }"
+        asked, named = "requires { Odd count }", "requires needed { Odd count }"
         for new in (f"{asked}\n    {ONE}", f"{named}\n    {ONE}", f"{ONE}\n    {named}"):
             self.refuses("inner::one has a requires", INNER_FILE, ONE, new)
-        self.refuses("gridprofile_one has a requires", INTERFACE_FILE, "-> u8\n", f"-> u8\n    {named}\n")
+        for file in (INTERFACE_FILE, LIBRARY_FILE):
+            self.refuses("gridprofile_one has a requires", file, "-> u8\n", f"-> u8\n    {named}\n")
 
     def test_it_has_no_ghost_value(self):
         self.refuses("has a ghost clause", INNER_FILE, ONE, f"ghost {{ ⊥ }}\n    {ONE}")
 
     def test_it_promises_once(self):
         self.refuses("inner::one has no ensures", INNER_FILE, ONE, "")
-        self.refuses("has 2 ensures", INNER_FILE, ONE, f"{ONE}\n    ensures within {{ λ r. ⌜ r ≤ count ⌝ }}")
+        self.refuses("has 2 ensures", INNER_FILE, ONE, f"{ONE}\n    ensures within {{ result ≤ count }}")
         self.refuses("has 2 ensures", INNER_FILE, ONE, f"{ONE}\n    {ONE}")
         self.refuses("has a label, alone", INNER_FILE, ONE, ONE.replace("ensures", "ensures alone"))
 
     def test_it_promises_one_name(self):
-        for new in ("⊤", "One classes × Three count", "One classes ∗ ⌜ Three ⌝", "now (out .exit) ≡ classes"):
-            self.refuses("not one name applied", INNER_FILE, ONE, f"ensures {{ λ r. ⌜ {new} ⌝ }}")
-        forms = ("⌜ One ⌝", "λ r. One classes", "λ r s. ⌜ One ⌝", "λ r. do ⌜ One ⌝", "λ r. ⌜One 7⌝", "λ r. ⌜ ⌝")
-        for new in (*forms, "λ r. «⌜» One classes «⌝»"):
-            self.refuses("is not `λ r. ⌜ Name arguments ⌝`", INNER_FILE, ONE, f"ensures {{ {new} }}")
+        for new in ("⊤", "One classes × Three count", "One classes ∗ Three", "out.new ≡ classes", "λ r. One r", "", "«⊤» One"):
+            self.refuses("not one name applied", INNER_FILE, ONE, f"ensures {{ {new} }}")
 
     def test_its_arguments_are_plain(self):
-        for new in ("(no (now (line .entry)))", "(now (line.entry))", "(now line)", "(line .entry)", "(line)"):
-            self.refuses("an argument, `( ", INNER_FILE, "(now (line .entry))", new)
-        self.refuses("imports line.entry 0 times", INNER_FILE, "(now (line .entry))", "line.entry")
+        for new in ("(length line.now)", "(line.now)", "line.entry", "line.exit", "line.now.first"):
+            said = "not one name applied" if new == "line.now.first" else "an argument, `"
+            self.refuses(said, INNER_FILE, "line.now", new)
 
     def test_it_leaves_nothing_out(self):
-        self.refuses("one leaves out now (line .entry)", INNER_FILE, " (now (line .entry))", "")
-        self.refuses("one leaves out now (out .entry)", INNER_FILE, " (now (out .entry))", "")
-        self.refuses("one leaves out now (out .exit)", INNER_FILE, " (now (out .exit))", "")
-        self.refuses("one leaves out count", INNER_FILE, " count r", " r")
-        self.refuses("one leaves out the answer", INNER_FILE, " count r", " count")
-        self.refuses("three leaves out now (state .exit)", MORE_FILE, " (now (state .exit))", "")
-        self.refuses("three leaves out last_word", MORE_FILE, " «last_word»", "")
-        self.refuses("imports last_word 0 times", MORE_FILE, "«last_word»", "last_word")
+        self.refuses("one leaves out line.now", INNER_FILE, " line.now", "")
+        self.refuses("one leaves out out.old", INNER_FILE, " out.old", "")
+        self.refuses("one leaves out out.new", INNER_FILE, " out.new", "")
+        self.refuses("one leaves out count", INNER_FILE, " count result", " result")
+        self.refuses("one leaves out the answer", INNER_FILE, " count result", " count")
+        self.refuses("three leaves out state.new", MORE_FILE, " state.new", "")
+        self.refuses("three leaves out last_word", MORE_FILE, " last_word state.new", " state.new")
+        self.refuses("imports last_words 0 times", MORE_FILE, " last_word state", " last_words state")
 
     def test_a_reference_is_looked_through(self):
-        self.refuses("where now (line .entry) is meant", INNER_FILE, "(now (line .entry))", "line")
-        self.refuses("count in the ensures of inner::one is no", INNER_FILE, "count r", "(now (count .entry)) r")
+        self.refuses("where line.now is meant", INNER_FILE, "line.now", "line")
+        self.refuses("has line.old where line.now is meant", INNER_FILE, "line.now", "line.old")
+        self.refuses("has out.now where out.old is meant", INNER_FILE, "out.new", "out.now")
+        self.refuses("count in the ensures of inner::one is no", INNER_FILE, "count result", "count.now result")
+        self.refuses("result in the ensures of inner::one is no", INNER_FILE, "count result", "count result.now")
 
     def test_its_words_are_not_hidden(self):
-        self.refuses("hidden", INNER_FILE, "count: u32", "One: u32", "count r", "One r")
-        self.refuses("hidden", INNER_FILE, "count: u32", "now: u32", "count r", "now r")
-        self.refuses("hidden", INNER_FILE, "λ r. ⌜ One", "λ out. ⌜ One")
-        self.refuses("hidden", INNER_FILE, "λ r. ⌜ One", "λ One. ⌜ One")
-        self.refuses("takes a word", INNER_FILE, "{_≡_}", "{_≡_, ⌜_count_⌝}")
-        self.refuses("takes a word", INNER_FILE, "{_≡_}", "{_≡_, now}")
+        self.refuses("hidden", INNER_FILE, "count: u32", "One: u32", "count result", "One result")
+        self.refuses("hidden", INNER_FILE, "count: u32", "result: u32", "count result", "result result")
+        self.refuses("hidden", INNER_FILE, "One classes", "result classes")
+        self.refuses("takes a word", INNER_FILE, "{◌≡◌}", "{◌≡◌, ◌count◌}")
+        self.refuses("takes a word", INNER_FILE, "{◌≡◌}", "{◌≡◌, ◌new}")
+        self.refuses("takes a word", INNER_FILE, "{◌≡◌}", "{◌≡◌, result}")
 
 
 class Definitions(Repository):
     """The name that an entry promises is the listed definition."""
 
     def test_another_crates(self):
-        own, twins = "Rattle·inner·specs.specs", "Rattle·twin.specs"
-        self.refuses("promises twin.Promises.One, and docs/entries.txt says inner.", INNER_FILE, own, twins)
-        self.refuses("promises twin.Promises.One, and docs", INTERFACE_FILE, "Rattle·inner", "Rattle·twin")
+        for file in (INNER_FILE, INTERFACE_FILE):
+            self.refuses("promises twin.Promises.One, and docs/entries.txt says inner.", file, "Rattle.inner", "Rattle.twin")
+        self.refuses("and gridprofile::gridprofile_one twin.Promises.One", LIBRARY_FILE, "Rattle.inner", "Rattle.twin")
+        c = {INTERFACE_FILE: INTERFACE.replace("{One", "{Two").replace("{ One", "{ Two")}
+        self.refuses("gridprofile_one promises inner.Promises.Two, and docs", LIBRARY_FILE, "{One", "{Two", "{ One", "{ Two", **c)
 
     def test_another_files(self):
         self.refuses("promises inner.Others.One", INNER_FILE, "Promises", "Others")
         none = "no file of a crate's definitions"
-        self.refuses(none, INNER_FILE, "specs.specs.Promises", "specs.specs.Promises.More")
-        self.refuses(none, INNER_FILE, "Rattle·inner·specs.specs", "inner")
-        self.refuses(none, INTERFACE_FILE, "Rattle·inner.", "Rattle·inner·specs.")
+        self.refuses(none, INNER_FILE, "specs.Promises", "specs.Promises.More")
+        self.refuses(none, INNER_FILE, "Rattle.inner.specs", "inner")
+        self.refuses(none, INTERFACE_FILE, "Rattle.inner.", "Rattle.inner.proofs.")
+        self.refuses(none, INTERFACE_FILE, "Rattle.inner.specs", "Rattle.inner.proofs")
 
     def test_another_of_the_list(self):
         self.refuses("promises inner.Promises.One", entries.LIST, "inner.Promises.One", "inner.Promises.Three")
@@ -486,23 +602,23 @@ class Definitions(Repository):
         self.refuses("imports Free as One: another name", INNER_FILE, "  One,", "  Free as One,")
         self.refuses("imports Free as Spare: another name", INNER_FILE, "  One,", "  One, Free as Spare,")
         self.refuses("imports classes as p: another name", INNER_FILE, "  One,", "  One, classes as p,")
-        whole = "classes};\nghost use Rattle·twin.specs as One"
-        self.refuses("imports Rattle·twin.specs as One", INNER_FILE, "  One,", "", "  classes,\n}", whole)
+        whole = "classes};\nghost use Rattle.twin.specs as One"
+        self.refuses("imports Rattle.twin.specs as One", INNER_FILE, "  One,", "", "  classes,\n}", whole)
 
     def test_an_inner_definition(self):
-        inner = "ghost use Rattle·inner·specs.specs.InnerStates.{one as oneOf};\nghost use"
+        inner = "ghost use Rattle.inner.specs.InnerStates.{one as one_of};\nghost use"
         text = REPOSITORY[INNER_FILE].replace("ghost use", inner, 1)
         self.assertEqual(self.problems(**{INNER_FILE: text}), [])
-        self.refuses("no file of a crate's definitions", INNER_FILE, "specs.specs.Promises", "specs.specs.InnerStates")
+        self.refuses("no file of a crate's definitions", INNER_FILE, "specs.Promises", "specs.InnerStates")
 
     def test_imported_once(self):
         self.refuses("imports One 2 times", INNER_FILE, "  One,", "  One, Mine.One,")
-        self.refuses("imports One 2 times", INNER_FILE, "mod beside {", "mod beside {\nghost use Rattle·twin.{One};")
+        self.refuses("imports One 2 times", INNER_FILE, "mod beside {", "mod beside {\nghost use Rattle.twin.{One};")
         self.refuses("imports One 0 times", INNER_FILE, "  One,", "  Two,")
 
     def test_a_crates_definitions_are_under_their_own_name(self):
-        item = "ghost use mathlib.Rattle·inner·specs;\nghost use Rattle"
-        self.refuses("gives Rattle·inner·specs another meaning", INNER_FILE, "ghost use Rattle", item)
+        item = "ghost use other.specs.Rattle;\nghost use Rattle"
+        self.refuses("gives Rattle another meaning", INNER_FILE, "ghost use Rattle", item)
 
     def test_it_is_defined(self):
         gone, record = "defines One publicly 0 times", "pub record One"
@@ -520,41 +636,62 @@ class Definitions(Repository):
 
 
 class CFunctions(Repository):
-    """A C function promises what the one function promises that it calls."""
+    """A C function promises what the library's function of its name promises, and that one what the one function promises
+    that it calls."""
 
     def test_its_form(self):
-        for old, new in (("#[no_mangle]\n", ""), ('extern "C" ', "")):
-            self.refuses('is not `#[no_mangle] pub extern "C"`', CATEGORY_FILE, old, new)
-        self.refuses("gridprofile_two is not public", CATEGORY_FILE, "pub extern", "extern")
-        self.refuses("crate gridprofile does not export gridprofile_one", INTERFACE_FILE, "_one", "_none")
+        for old, new in (("#[unsafe(no_mangle)]\n", ""), ('extern "C" ', "")):
+            self.refuses('is not `#[unsafe(no_mangle)] pub extern "C"`', C_CATEGORY_FILE, old, new)
+        self.refuses("gridprofile_two is not public", C_CATEGORY_FILE, "pub extern", "extern")
+        self.refuses("crate gridprofile_c does not export gridprofile_one", INTERFACE_FILE, "fn gridprofile_one", "fn gridprofile_none")
+
+    def test_it_calls_the_librarys_function_of_its_name(self):
+        own, said = "gridprofile::gridprofile_one(", "and not the function of its own name in gridprofile"
+        for other in ("inner::one(", "gridprofile::category1::gridprofile_one(", "gridprofile::gridprofile_two(", "gridprofile::one("):
+            self.refuses(said, INTERFACE_FILE, own, other)
+        three = C_CATEGORY.replace("gridprofile::category1", "gridprofile::category3")
+        self.assertTrue(any(said in each for each in self.problems(**{C_CATEGORY_FILE: three})))
+
+    def test_that_one_is_plain(self):
+        self.refuses("is not a plain function", LIBRARY_FILE, "pub fn", 'pub extern "C" fn')
+        self.refuses("gridprofile::gridprofile_one is not public", LIBRARY_FILE, "pub fn", "fn")
+        self.refuses("gridprofile_one is declared nowhere", LIBRARY_FILE, "fn gridprofile_one", "fn gridprofile_none")
 
     def test_the_function_called_promises_the_same_name(self):
         self.refuses("promises deep.Entries.Two, and deep::entry::two deep.Entries.Too", DEEP_FILE, "Two", "Too")
-        self.refuses("and deep::entry::two twin.Entries.Two", DEEP_FILE, "Rattle·deep·specs.specs", "Rattle·twin.specs")
+        self.refuses("and deep::entry::two twin.Entries.Two", DEEP_FILE, "Rattle.deep", "Rattle.twin")
         self.refuses("entry.rt imports Free as Two", DEEP_FILE, "{Two}", "{Free as Two}")
         self.refuses("deep::entry::two has 2 ensures", DEEP_FILE, TWO, TWO + TWO)
         self.refuses("has a label", DEEP_FILE, TWO, TWO.replace("ensures", "ensures named"))
 
     def test_of_the_same_arguments(self):
-        old, new = "(now (line .entry)) (now (out .entry))", "(now (out .entry)) (now (line .entry))"
-        self.refuses("speaks of parameter out entry where", INTERFACE_FILE, old, new)
-        self.refuses("speaks of parameter line entry where", INNER_FILE, old, new)
-        self.refuses("speaks of number 3 where", INTERFACE_FILE, "classes 7", "classes 3")
-        self.refuses("speaks of number 7 where", INTERFACE_FILE, "classes 7", "7 classes")
-        self.refuses("where inner::one has nothing", INTERFACE_FILE, "(now (out .exit))", "(now (out .exit)) 7")
+        old, new = "line.now out.old", "out.old line.now"
+        for file, said in ((INTERFACE_FILE, "speaks of"), (LIBRARY_FILE, "where gridprofile::gridprofile_one has")):
+            self.refuses(f"{said} parameter out old", file, old, new)
+            self.refuses(f"{said} number 3", file, "classes 7", "classes 3")
+            self.refuses(f"{said} number 7", file, "classes 7", "7 classes")
+            self.refuses(f"{said} number 8", file, "out.new", "out.new 8")
+        self.refuses("speaks of parameter line now where inner::one has", INNER_FILE, old, new)
+        for one, three in (("classes 7", "classes 3"), ("out.new", "out.new 3")):
+            c = {INTERFACE_FILE: INTERFACE.replace(one, three)}
+            self.refuses("gridprofile::gridprofile_one speaks of number 3 where inner::one has", LIBRARY_FILE, one, three, **c)
         self.refuses("other parameters", INTERFACE_FILE, "(line, out, count)", "(line, out)")
+        self.refuses("other parameters", LIBRARY_FILE, "(line, out, count)", "(line, out)")
 
     def test_of_the_same_definitions(self):
-        imports = "{One};\nghost use Rattle·inner.specs.Others.{classes}"
-        self.refuses("speaks of definition inner.Others.classes", INTERFACE_FILE, "{One, classes}", imports)
+        imports = "{One};\nghost use Rattle.inner.specs.Others.{classes}"
+        for file, said in ((INTERFACE_FILE, "speaks of"), (LIBRARY_FILE, "where gridprofile::gridprofile_one has")):
+            self.refuses(f"{said} definition inner.Others.classes", file, "{One, classes}", imports)
 
     def test_of_the_arguments_of_the_call(self):
-        other = "where deep::entry::two has parameter out entry"
+        other = "where deep::entry::two has parameter out now"
         self.refuses(other, CATEGORY_FILE, "(P, block, &mut scratch, out)", "(P, out, &mut scratch, block)")
+        other = "where gridprofile::category1::gridprofile_two has parameter out now"
+        self.refuses(other, C_CATEGORY_FILE, "(block, out)", "(out, block)")
 
-    def test_it_calls_the_listed_function(self):
-        self.refuses("calls deep::entry::two, and not the listed", INTERFACE_FILE, "inner::one(", "deep::entry::two(")
-        self.refuses("calls inner::look, and not the listed", INTERFACE_FILE, "inner::one(", "inner::look(")
+    def test_the_librarys_calls_the_listed_function(self):
+        self.refuses("calls deep::entry::two, and not the listed", LIBRARY_FILE, "inner::one(", "deep::entry::two(")
+        self.refuses("calls inner::look, and not the listed", LIBRARY_FILE, "inner::one(", "inner::look(")
 
     def test_it_makes_one_call(self):
         call = "inner::one(line, out, count)"
@@ -575,7 +712,9 @@ class CFunctions(Repository):
             "inner::one(line, out, inner::number(count))",
             "inner::one(&line[1..], out, count)",
         ):
-            self.refuses("call", INTERFACE_FILE, call, body)
+            self.refuses("call", LIBRARY_FILE, call, body)
+            own = "gridprofile::gridprofile_one(line, out, count)"
+            self.refuses("call", INTERFACE_FILE, own, body.replace(call, own))
 
     def test_it_lends_its_own_parameters(self):
         lent = "lends `& mut scratch` for out, of which the contract speaks"
@@ -587,8 +726,11 @@ class CFunctions(Repository):
 
     def test_a_crates_name_is_the_crate(self):
         blocks = ("mod inner { pub fn one() {} }", "struct inner { }\nimpl inner { pub fn one() {} }")
-        for item in (*blocks, "mod inner;", "use other as inner;", "use other::inner;", "fn inner() {}"):
-            self.refuses("crate's name inner another", INTERFACE_FILE, "pub mod", f"{item}\npub mod")
+        uses = ("use other as inner;", "use other::inner;", "use other::{more, part::{inner}};", "use other::{more as inner, part};")
+        for item in (*blocks, "mod inner;", *uses, "fn inner() {}"):
+            self.refuses("crate's name inner another", LIBRARY_FILE, "pub mod", f"{item}\npub mod")
+            item = item.replace("inner", "gridprofile")
+            self.refuses("crate's name gridprofile another", INTERFACE_FILE, "pub mod", f"{item}\npub mod")
         self.refuses("crate's name parameters another", CATEGORY_FILE, "const ROOM", "mod parameters {}\nconst ROOM")
         self.refuses("there is no file for crate", CATEGORY_FILE, "deep::entry", "crate::entry")
 
@@ -597,13 +739,17 @@ class CFunctions(Repository):
         self.refuses("is not parameters::CATEGORY1", CATEGORY_FILE, "use parameters::CATEGORY1 as P;\n", "")
         self.refuses("is not parameters.Categories.category1", CATEGORY_FILE, "category1 as p", "category3 as p")
         self.refuses("or other sizes", CATEGORY_FILE, "category1 as p", "category1 as p, category3")
-        self.refuses("lends `P` for count", INTERFACE_FILE, "out, count)", "out, P)")
+        self.refuses("lends `P` for count", LIBRARY_FILE, "out, count)", "out, P)")
+        self.refuses("is not parameters.Categories.category1", C_CATEGORY_FILE, "category1 as p", "category3 as p")
+        self.refuses("or other sizes", C_CATEGORY_FILE, "category1 as p", "category1 as p, category3")
+        for item in ("use parameters::CATEGORY3 as P;", "const P: usize = 3;"):
+            self.refuses("is not parameters::CATEGORY1", C_CATEGORY_FILE, "ghost use Rattle.deep", f"{item}\nghost use Rattle.deep")
 
     def test_a_categorys_module_for_callers_in_rattle(self):
         listed = LIST.replace("gridprofile_two\n", "").replace("gridprofile_two  gridprofile_two", "free  -")
-        free = CATEGORY.replace("gridprofile_two", "free").replace("#[no_mangle]\n", "").replace('extern "C" ', "")
+        free = CATEGORY.replace("gridprofile_two", "free")
         header = HEADER[: HEADER.index("uint8_t gridprofile_two")]
-        paths = {entries.LIST: listed, entries.HEADER: header, CATEGORY_FILE: free}
+        paths = {entries.LIST: listed, entries.HEADER: header, CATEGORY_FILE: free, C_CATEGORY_FILE: C_CATEGORY[: C_CATEGORY.index("#[")]}
         self.assertEqual(self.problems(**paths), [])
         paths[CATEGORY_FILE] = free.replace("category1 as p", "category3").replace("Two p", "Two category3")
         self.assertTrue(any("is not parameters.Categories.category1" in each for each in self.problems(**paths)))
@@ -615,18 +761,19 @@ class CFunctions(Repository):
             entries.HEADER: HEADER[: HEADER.index("uint8_t gridprofile_two")],
             "include/gridprofile_category3.h": HEADER[HEADER.index("uint8_t gridprofile_two") :].replace("gridprofile_two", named),
             CATEGORY_FILE: CATEGORY.replace("gridprofile_two", named),
+            C_CATEGORY_FILE: C_CATEGORY.replace("gridprofile_two", named),
         }
-        said = f"gridprofile::category1::{named} has the name of another category"
+        said = f"gridprofile_c::category1::{named} has the name of another category"
         self.assertEqual(self.problems(**changed), [said])
         self.refuses("gridprofile_category3_one has the name", INTERFACE_FILE, "gridprofile_one", "gridprofile_category3_one",
                      **{entries.LIST: LIST.replace("gridprofile_one", "gridprofile_category3_one")})
 
     def test_the_file_of_a_category_uses_no_other(self):
-        sizes_of_1 = CATEGORY[: CATEGORY.index("ghost use Rattle·deep")]
+        sizes_of_1 = CATEGORY[: CATEGORY.index("ghost use Rattle.deep")]
         path = "crates/duty/src/category1.rt"
         for use in ("gridprofile::category1::gridprofile_two as two", "deep::categories", "parameters::CATEGORY1"):
             self.assertEqual(self.problems(**{path: f"{sizes_of_1}use {use};\n"}), [])
-        for use in ("gridprofile::category3::gridprofile_two as two", "deep::gridprofile_category5_two as two",
+        for use in ("gridprofile::category3::gridprofile_two as two", "deep::{gridprofile_category5_two as two, three}",
                     "parameters::CATEGORY3 as Q", "deep::category10", "deep::gridprofile_category1x"):
             self.refuses("of another category", INNER_FILE, **{path: f"{sizes_of_1}use {use};\n"})
         self.refuses("is not parameters::CATEGORY1", INNER_FILE, **{path: "use other::CATEGORY1 as P;\n"})
@@ -646,18 +793,20 @@ class Lists(Repository):
 
     def test_exports_are_listed(self):
         self.refuses("lacks the exported gridprofile_one", entries.LIST, "gridprofile_one", "-")
-        more, lacks = CATEGORY[CATEGORY.index("#[no") :].replace("_two", "_six"), "lacks the exported gridprofile_six"
-        self.refuses(lacks, CATEGORY_FILE, "const ROOM", f"mod in_here {{ {more} }}\nconst ROOM")
-        self.refuses(lacks, CATEGORY_FILE, **{"crates/gridprofile/src/orphan.rt": more})
+        more, lacks = C_CATEGORY[C_CATEGORY.index("#[") :].replace("_two", "_six"), "lacks the exported gridprofile_six"
+        self.refuses(lacks, C_CATEGORY_FILE, f"{EXPORT} gridprofile_two", f"mod in_here {{ {more} }}\n{EXPORT} gridprofile_two")
+        self.refuses(lacks, C_CATEGORY_FILE, **{"crates/gridprofile_c/src/orphan.rt": more})
 
-    def test_an_exported_name_is_declared_once(self):
-        for crate in ("gridprofile", "tiny_sizes", "inner"):
+    def test_an_exported_name_is_declared_once_beside_the_librarys(self):
+        for crate in ("gridprofile_c", "gridprofile", "tiny_sizes", "inner"):
             orphan = {f"crates/{crate}/src/orphan.rt": "fn gridprofile_one() {}\n"}
-            self.refuses("gridprofile_one is declared 2 times", INNER_FILE, **orphan)
+            self.refuses("gridprofile_one is declared 3 times", INNER_FILE, **orphan)
 
     def test_only_the_interface_and_the_tests_export(self):
-        export = '#[no_mangle]\npub extern "C" fn tiny_one() {}\n'
-        self.refuses("crate inner exports one to C", INNER_FILE, HEAD, "#[no_mangle]\n" + HEAD)
+        export = f"{EXPORT} tiny_one() {{}}\n"
+        marked = "#[unsafe(no_mangle)]\n" + HEAD
+        self.refuses("crate inner exports one to C", INNER_FILE, HEAD, marked)
+        self.refuses("crate gridprofile exports gridprofile_one to C", LIBRARY_FILE, "pub fn", EXPORT)
         self.refuses("crate twin exports tiny_one to C", INNER_FILE, **{"crates/twin/src/lib.rt": export})
         self.assertEqual(self.problems(**{"crates/tiny_sizes/src/lib.rt": export}), [])
 
@@ -697,23 +846,30 @@ class Sources(Repository):
             ("pub mod more;", "const fn two() {}\npub mod more;"),
             ("ensures kept {", "ensures kept firmly {"),
             ("BAD\n}", "'a'\n}"),
-            ("BAD\n}", '"a"\n}'),
+            ("BAD\n}", '"a\n}'),
             ("b'\"'", 'br#"a"#'),
-            ("#[repr(C)]", "#[cfg(never)]"),
+            ("#[derive(Clone, Copy)]", "#[cfg(never)]"),
+            ("#[derive(Clone, Copy)]", "#[derive(Clone), unsafe(no_mangle)]"),
+            ("#[cycle(looks)]", "#[unsafe(no_mangle = one)]"),
+            ("#![tactic(auto)]", "#![cfg(never)]"),
+            ("pub mod more;", "pub mod more;\n#![tactic(auto)]"),
+            ("FULL}", "self}"),
+            ("FULL}", "*}"),
             ("pub mod more;", '#[path = "beside.rt"]\npub mod more;'),
             ("pub mod more;", "pub mod more;\nmod more {}"),
             ("pub mod more;", 'extern "C" { fn foreign(); }\npub mod more;'),
             ("pub mod more;", "use other::*;\npub mod more;"),
-            ("{_≡_}", "*"),
-            ("{_≡_}", "{_≡_ one}"),
-            ("λ r. ⌜ One", "λ r. -- ⌜ One\n    ⌜ One"),
-            ("λ r. ⌜ One", "λ r. {- } -} ⌜ One"),
-            ("λ r. ⌜ One", 'λ r. "}" ⌜ One'),
-            ("λ r. ⌜ One", "λ r. // ⌜ One\n    ⌜ One"),
+            ("{◌≡◌}", "*"),
+            ("{◌≡◌}", "{◌≡◌ one}"),
+            ("{ One", "{ -- One\n    One"),
+            ("{ One", "{ {- } -} One"),
+            ("{ One", '{ "}" One'),
+            ("{ One", "{ // One\n    One"),
             ("count: u32", "(count, more): u32"),
             ("-> u8\n", "-> u8\n    where 'a: 'b\n"),
         ):
-            self.refuses("carriage return" if "\r" in new else "crates/inner/src/lib.rt:", INNER_FILE, old, new)
+            with self.subTest(new):
+                self.refuses("carriage return" if "\r" in new else "crates/inner/src/lib.rt:", INNER_FILE, old, new)
 
     def test_a_module_without_a_file(self):
         gone = {entries.LIST: LIST.replace("more::three", "gone::three")}
@@ -738,6 +894,9 @@ class Sources(Repository):
         self.assertEqual((look.public, look.result, other.path), (False, "u8", ("inner", "beside", "other")))
         self.assertEqual(one.body[2], 'b"} // /* \\" pub fn one() {"')
         self.assertEqual((module.children, module.names), ({"more": True}, ["one", "look", "other"]))
+        used = [("BAD_SIZE", "BAD"), ("BAD_FIELD", "BAD_FIELD"), ("Part", "Part"), ("part", "piece"), ("FULL", "FULL")]
+        self.assertEqual([(path[-1], local) for path, local in module.uses], used)
+        self.assertEqual(module.uses[3][0], ("outcome", "lists", "part"))
 
 
 if __name__ == "__main__":

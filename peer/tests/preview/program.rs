@@ -10,7 +10,7 @@ use std::thread;
 
 /// The program, or the one that GRIDPROFILE_PREVIEW names.
 fn path() -> String {
-    let made = concat!(env!("CARGO_MANIFEST_DIR"), "/../target/bin/preview_main");
+    let made = concat!(env!("CARGO_MANIFEST_DIR"), "/../crates/preview_main/out/preview_main");
     std::env::var("GRIDPROFILE_PREVIEW").unwrap_or(made.to_string())
 }
 
