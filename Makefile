@@ -21,7 +21,7 @@ cli: ## proves the library and builds the command-line program, target/cli/gridp
 	@$(MAKE) --silent $(PROGRAM)
 	@echo "The program is $(PROGRAM)."
 
-test: ## the gate: every proof from nothing, every wrong program that must be refused, every other test
+test: ## the gate: every proof, every wrong program that must be refused, every other test
 	@tools/need rt gcc g++ ld size cargo python3
 	@tools/gate
 
