@@ -44,21 +44,21 @@ extern "C" {
 /* Draws the matrix V, GRIDPROFILE_CATEGORY3_MATRIX_VALUES values row by row, from a block of
  * GRIDPROFILE_CATEGORY3_MATRIX_BLOCK_BYTES: its 7-bit fields in order, 127 dropped. Refuses with 1
  * where either length is another, then with 2 where the block yields too few.
- * Stack: 8640 bytes. */
+ * Stack: 8704 bytes. */
 uint8_t gridprofile_category3_sample_matrix(const uint8_t *block, size_t block_len, uint8_t *out,
                                             size_t out_len);
 
 /* Draws GRIDPROFILE_CATEGORY3_PLACES exponents from a block of
  * GRIDPROFILE_CATEGORY3_EXPONENTS_BLOCK_BYTES: its 3-bit fields in order, 7 dropped. Refuses with
  * 1, then 2.
- * Stack: 384 bytes. */
+ * Stack: 448 bytes. */
 uint8_t gridprofile_category3_sample_exponents(const uint8_t *block, size_t block_len, uint8_t *out,
                                                size_t out_len);
 
 /* Draws GRIDPROFILE_CATEGORY3_PLACES mask values from a block of
  * GRIDPROFILE_CATEGORY3_MASK_VALUES_BLOCK_BYTES: its 7-bit fields in order, 127 dropped. Refuses
  * with 1, then 2.
- * Stack: 384 bytes. */
+ * Stack: 448 bytes. */
 uint8_t gridprofile_category3_sample_mask_values(const uint8_t *block, size_t block_len,
                                                  uint8_t *out, size_t out_len);
 
@@ -78,7 +78,7 @@ uint8_t gridprofile_category3_sample_second_challenge(const uint8_t *block, size
 
 /* Makes the public key of a private seed of GRIDPROFILE_CATEGORY3_PRIVATE_SEED_BYTES into
  * GRIDPROFILE_CATEGORY3_KEY_BYTES. Refuses with 1, then 2.
- * Stack: 18752 bytes. */
+ * Stack: 18624 bytes. */
 uint8_t gridprofile_category3_make_key(const uint8_t *private_seed, size_t private_seed_len,
                                        uint8_t *key, size_t key_len);
 
@@ -86,7 +86,7 @@ uint8_t gridprofile_category3_make_key(const uint8_t *private_seed, size_t priva
  * GRIDPROFILE_CATEGORY3_SIGNATURE_BYTES. The master seed (GRIDPROFILE_CATEGORY3_MASTER_SEED_BYTES)
  * and the salt (GRIDPROFILE_CATEGORY3_SALT_BYTES) must be drawn afresh for each signature, and the
  * master seed kept secret; the library draws neither. Refuses with 1, then 2.
- * Stack: 144512 bytes. */
+ * Stack: 144768 bytes. */
 uint8_t gridprofile_category3_sign(const uint8_t *private_seed, size_t private_seed_len,
                                    const uint8_t *master_seed, size_t master_seed_len,
                                    const uint8_t *salt, size_t salt_len, const uint8_t *message,
@@ -96,7 +96,7 @@ uint8_t gridprofile_category3_sign(const uint8_t *private_seed, size_t private_s
  * (GRIDPROFILE_CATEGORY3_KEY_BYTES): 0 means that it holds. Refuses with 1, 3, 2 and 4 as
  * gridprofile_verify does; a key or a signature of another category has another length, and so is
  * 1.
- * Stack: 24960 bytes. */
+ * Stack: 25792 bytes. */
 uint8_t gridprofile_category3_verify(const uint8_t *key, size_t key_len, const uint8_t *message,
                                      size_t message_len, const uint8_t *signature,
                                      size_t signature_len);
@@ -106,7 +106,7 @@ uint8_t gridprofile_category3_verify(const uint8_t *key, size_t key_len, const u
  * GRIDPROFILE_CATEGORY3_REPLY_0_BYTES under second challenge 0 and
  * GRIDPROFILE_CATEGORY3_REPLY_1_BYTES under 1, and round is 1 to GRIDPROFILE_CATEGORY3_ROUNDS.
  * Refuses with 1, 3, 2, the reply's 3 or 2, and 4.
- * Stack: 20096 bytes. */
+ * Stack: 19904 bytes. */
 uint8_t gridprofile_category3_verify_round(const uint8_t *key, size_t key_len, const uint8_t *salt,
                                            size_t salt_len, uint32_t round,
                                            const uint8_t *commitment_0, size_t commitment_0_len,
@@ -120,7 +120,7 @@ uint8_t gridprofile_category3_verify_round(const uint8_t *key, size_t key_len, c
  * not touched. Seeds and salt are as for gridprofile_category3_sign, the table (the image of a class
  * table, GRIDPROFILE_TABLE_IMAGE_BYTES) is as for gridprofile_make_package. Refuses with 1, 5 and 2;
  * *length is then as it was.
- * Stack: 145088 bytes. */
+ * Stack: 145216 bytes. */
 uint8_t gridprofile_category3_make_package(const uint8_t *table, size_t table_len,
                                            const uint8_t *private_seed, size_t private_seed_len,
                                            const uint8_t *master_seed, size_t master_seed_len,
@@ -132,7 +132,7 @@ uint8_t gridprofile_category3_make_package(const uint8_t *table, size_t table_le
  * GRIDPROFILE_CATEGORY3_PACKAGE_MAX_BYTES into a store, as gridprofile_load does, which says what a
  * device is set to, what a store is and how it outlasts a loss of power. Refuses with 10, 1, 3, 2, 4,
  * 5, 6, 7 and 8 in that function's order.
- * Stack: 25600 bytes. */
+ * Stack: 26304 bytes. */
 uint8_t gridprofile_category3_load(uint8_t *store, size_t store_len, const uint8_t *key,
                                    size_t key_len, const uint8_t *package, size_t package_len,
                                    const uint8_t *country, size_t country_len,
