@@ -18,7 +18,7 @@ ERROR = re.compile(r"^(?P<file>\S+?):\d+:\d+: error(?:\[[^\]]*\])?: (?P<text>.*)
 UNPROVED = re.compile(r"^note: (?P<file>\S+?):\d+:\d+: (?P<text>it is not proved that .*)$")
 VERDICT = re.compile(r"^fn (?P<name>\S+): (?P<proved>proved$)?")
 EACH = re.compile(r"^each: (\S+)$", re.M)
-# What rt says of an edit. The first fact of a refusal follows, cut short, or a note in parentheses of why it says little.
+# What rt says of an edit. Behind a refusal follows its first fact, cut short, or in parentheses why it says little.
 TRIED = re.compile(r"^rt: must-fail (?P<name>\S+/\S+)\.edit: (?P<came>.*)$", re.M)
 REFUSED = "refused, as it must be"
 PARTS = ("src", "specs", "proofs")
@@ -80,8 +80,8 @@ def came_to(said):
 
 
 def told(came):
-    """Whether what rt said of an edit settles it, and its problem or None. rt tells the first fact alone and cuts it short:
-    where that is none, or there is none, all that a check says has to be looked at."""
+    """Whether what rt said of an edit settles it, and its problem or None. rt tells the first fact alone and cuts it
+    short: where that is none, or there is none, all that a check says has to be looked at."""
     if came is None:
         return True, "it was not tried"
     if not came.startswith(REFUSED) or came.startswith(f"{REFUSED} ("):
@@ -140,8 +140,8 @@ def log_of(edit, crate, work):
 
 
 def check(root, said):
-    """A pair for each edit of each crate: what it is, and its problem or None, by what rt ci said. Where that does not tell,
-    and where an edit has a line `each:`, the edit is made in a copy and its crate checked."""
+    """A pair for each edit of each crate: what it is, and its problem or None, by what rt ci said. Where that does not
+    tell, and where an edit has a line `each:`, the edit is made in a copy and its crate checked."""
     came = came_to(said)
     with copied(root) as work:
         for edit in sorted(glob.glob(os.path.join(root, "crates", "*", "must-fail", "*.edit"))):

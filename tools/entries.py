@@ -137,7 +137,8 @@ def hides_nothing(function, module, tokens):
     where = f"the ensures of {shown(function.path)}"
     hidden = {RESULT, tokens[0]} & {parameter for parameter, _ in function.parameters}
     if tokens[0] == RESULT or hidden:
-        raise Problem(f"{RESULT if tokens[0] == RESULT else hidden.pop()} in {where} is hidden by a parameter or by the answer")
+        word = RESULT if tokens[0] == RESULT else hidden.pop()
+        raise Problem(f"{word} in {where} is hidden by a parameter or by the answer")
     words = {part for token in tokens for part in (token, *token.split("."))}
     for taken in module.imports:
         parts = taken.local.split("◌") if "◌" in taken.local else []
@@ -146,7 +147,7 @@ def hides_nothing(function, module, tokens):
 
 
 def words_of(tokens):
-    """The arguments of a contract one by one: a word and nothing, or of `x.now`, `x.old` or `x.new` the word and the moment."""
+    """The arguments of a contract one by one: a word and nothing, or of `x.now`, `x.old`, `x.new` the word and the moment."""
     for token in tokens:
         word, _, moment = token.partition(".")
         if token in ("(", ")") or ("." in token and moment not in ("now", "old", "new")):
@@ -332,7 +333,8 @@ def c_function(tree, entry):
     is_named_by_category(function, module)
     call = one_call(function)
     if call.path != (LIBRARY, *function.path[1:]):
-        raise Problem(f"{shown(function.path)} calls {shown(call.path)}, and not the function of its own name in {LIBRARY}")
+        calls = f"calls {shown(call.path)}, and not the function of its own name in {LIBRARY}"
+        raise Problem(f"{shown(function.path)} {calls}")
     promises_what_it_calls(tree, function, module, promised, call)
     library_function(tree, entry, call.path)
 
@@ -413,7 +415,8 @@ def exported(tree, listed, crate, name):
         raise Problem(f"{LIST} lacks the exported {name}")
     found = [module.path[0] for module in tree.modules() for each in module.names if each == name]
     if sorted(found) != ([LIBRARY, crate] if crate == EXPORTS else [crate]):
-        raise Problem(f"the exported {name} is declared {len(found)} times in the files of all crates: in {', '.join(found)}")
+        where = ", ".join(found)
+        raise Problem(f"the exported {name} is declared {len(found)} times in the files of all crates: in {where}")
 
 
 def judged(what, check, *arguments):

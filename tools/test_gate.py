@@ -21,7 +21,8 @@ class Edits(unittest.TestCase):
     def test_a_fact_that_fails_counts(self):
         for said in (
             "./proofs/hex/Answers.antt:21:23: error: `read`: `search`: no proof of `a < b`",
-            "specs/Table.antt:3:1: error: `t`: as printed, the two types differ\n  computed as far as they go, the two types differ",
+            "specs/Table.antt:3:1: error: `t`: as printed, the two types differ\n"
+            "  computed as far as they go, the two types differ",
         ):
             self.assertIsNone(self.judge(f"{said}\n"))
 
@@ -33,7 +34,8 @@ class Edits(unittest.TestCase):
         for said in (
             "`r`: `goal.x`: module `Rattle.laws.proofs.hex.Goals` has no `x` that can be named from here",
             "`r`: expected type `goal.returns`, but this has type `goal.overflow_mul`",
-            "`r`: the two types differ\n  expected type `Rattle.laws.proofs.hex.Goals.a`\n  but this has type `Rattle.laws.proofs.hex.Goals.b`",
+            "`r`: the two types differ\n  expected type `Rattle.laws.proofs.hex.Goals.a`\n"
+            "  but this has type `Rattle.laws.proofs.hex.Goals.b`",
             "`returns`: record `Lts.Else1`\n  has no field `args`",
             "`returns`: `x` is not in scope",
         ):
@@ -124,7 +126,8 @@ class Tries(unittest.TestCase):
 
     def edit(self, name, new, *more):
         old = "file: src/lib.rt\nold: fn laws::one: proved\n"
-        self.write(f"root/crates/laws/must-fail/{name}.edit", "".join(f"{line}\n" for line in more) + f"{old}new: {new}\n")
+        head = "".join(f"{line}\n" for line in more)
+        self.write(f"root/crates/laws/must-fail/{name}.edit", f"{head}{old}new: {new}\n")
 
     def problems(self, **said):
         """What the check finds, and how often rt was called for it."""
@@ -543,7 +546,8 @@ class Promises(Repository):
         self.refuses("has a label, alone", INNER_FILE, ONE, ONE.replace("ensures", "ensures alone"))
 
     def test_it_promises_one_name(self):
-        for new in ("⊤", "One classes × Three count", "One classes ∗ Three", "out.new ≡ classes", "λ r. One r", "", "«⊤» One"):
+        forms = ("One classes × Three count", "One classes ∗ Three", "out.new ≡ classes", "λ r. One r", "«⊤» One")
+        for new in ("⊤", "", *forms):
             self.refuses("not one name applied", INNER_FILE, ONE, f"ensures {{ {new} }}")
 
     def test_its_arguments_are_plain(self):
@@ -581,11 +585,13 @@ class Definitions(Repository):
     """The name that an entry promises is the listed definition."""
 
     def test_another_crates(self):
+        said = "promises twin.Promises.One, and docs/entries.txt says inner."
         for file in (INNER_FILE, INTERFACE_FILE):
-            self.refuses("promises twin.Promises.One, and docs/entries.txt says inner.", file, "Rattle.inner", "Rattle.twin")
+            self.refuses(said, file, "Rattle.inner", "Rattle.twin")
         self.refuses("and gridprofile::gridprofile_one twin.Promises.One", LIBRARY_FILE, "Rattle.inner", "Rattle.twin")
         c = {INTERFACE_FILE: INTERFACE.replace("{One", "{Two").replace("{ One", "{ Two")}
-        self.refuses("gridprofile_one promises inner.Promises.Two, and docs", LIBRARY_FILE, "{One", "{Two", "{ One", "{ Two", **c)
+        said = "gridprofile_one promises inner.Promises.Two, and docs"
+        self.refuses(said, LIBRARY_FILE, "{One", "{Two", "{ One", "{ Two", **c)
 
     def test_another_files(self):
         self.refuses("promises inner.Others.One", INNER_FILE, "Promises", "Others")
@@ -636,19 +642,21 @@ class Definitions(Repository):
 
 
 class CFunctions(Repository):
-    """A C function promises what the library's function of its name promises, and that one what the one function promises
-    that it calls."""
+    """A C function promises what the library's function of its name promises, and that one what the one function
+    promises that it calls."""
 
     def test_its_form(self):
         for old, new in (("#[unsafe(no_mangle)]\n", ""), ('extern "C" ', "")):
             self.refuses('is not `#[unsafe(no_mangle)] pub extern "C"`', C_CATEGORY_FILE, old, new)
         self.refuses("gridprofile_two is not public", C_CATEGORY_FILE, "pub extern", "extern")
-        self.refuses("crate gridprofile_c does not export gridprofile_one", INTERFACE_FILE, "fn gridprofile_one", "fn gridprofile_none")
+        said = "crate gridprofile_c does not export gridprofile_one"
+        self.refuses(said, INTERFACE_FILE, "fn gridprofile_one", "fn gridprofile_none")
 
     def test_it_calls_the_librarys_function_of_its_name(self):
         own, said = "gridprofile::gridprofile_one(", "and not the function of its own name in gridprofile"
-        for other in ("inner::one(", "gridprofile::category1::gridprofile_one(", "gridprofile::gridprofile_two(", "gridprofile::one("):
-            self.refuses(said, INTERFACE_FILE, own, other)
+        others = ("inner::one", "gridprofile::category1::gridprofile_one", "gridprofile::gridprofile_two")
+        for other in (*others, "gridprofile::one"):
+            self.refuses(said, INTERFACE_FILE, own, f"{other}(")
         three = C_CATEGORY.replace("gridprofile::category1", "gridprofile::category3")
         self.assertTrue(any(said in each for each in self.problems(**{C_CATEGORY_FILE: three})))
 
@@ -673,8 +681,8 @@ class CFunctions(Repository):
             self.refuses(f"{said} number 8", file, "out.new", "out.new 8")
         self.refuses("speaks of parameter line now where inner::one has", INNER_FILE, old, new)
         for one, three in (("classes 7", "classes 3"), ("out.new", "out.new 3")):
-            c = {INTERFACE_FILE: INTERFACE.replace(one, three)}
-            self.refuses("gridprofile::gridprofile_one speaks of number 3 where inner::one has", LIBRARY_FILE, one, three, **c)
+            c, said = {INTERFACE_FILE: INTERFACE.replace(one, three)}, "speaks of number 3 where inner::one has"
+            self.refuses(f"gridprofile::gridprofile_one {said}", LIBRARY_FILE, one, three, **c)
         self.refuses("other parameters", INTERFACE_FILE, "(line, out, count)", "(line, out)")
         self.refuses("other parameters", LIBRARY_FILE, "(line, out, count)", "(line, out)")
 
@@ -726,8 +734,9 @@ class CFunctions(Repository):
 
     def test_a_crates_name_is_the_crate(self):
         blocks = ("mod inner { pub fn one() {} }", "struct inner { }\nimpl inner { pub fn one() {} }")
-        uses = ("use other as inner;", "use other::inner;", "use other::{more, part::{inner}};", "use other::{more as inner, part};")
-        for item in (*blocks, "mod inner;", *uses, "fn inner() {}"):
+        uses = ("use other as inner;", "use other::inner;")
+        trees = ("use other::{more, part::{inner}};", "use other::{more as inner, part};")
+        for item in (*blocks, "mod inner;", *uses, *trees, "fn inner() {}"):
             self.refuses("crate's name inner another", LIBRARY_FILE, "pub mod", f"{item}\npub mod")
             item = item.replace("inner", "gridprofile")
             self.refuses("crate's name gridprofile another", INTERFACE_FILE, "pub mod", f"{item}\npub mod")
@@ -743,30 +752,34 @@ class CFunctions(Repository):
         self.refuses("is not parameters.Categories.category1", C_CATEGORY_FILE, "category1 as p", "category3 as p")
         self.refuses("or other sizes", C_CATEGORY_FILE, "category1 as p", "category1 as p, category3")
         for item in ("use parameters::CATEGORY3 as P;", "const P: usize = 3;"):
-            self.refuses("is not parameters::CATEGORY1", C_CATEGORY_FILE, "ghost use Rattle.deep", f"{item}\nghost use Rattle.deep")
+            deep = "ghost use Rattle.deep"
+            self.refuses("is not parameters::CATEGORY1", C_CATEGORY_FILE, deep, f"{item}\n{deep}")
 
     def test_a_categorys_module_for_callers_in_rattle(self):
         listed = LIST.replace("gridprofile_two\n", "").replace("gridprofile_two  gridprofile_two", "free  -")
         free = CATEGORY.replace("gridprofile_two", "free")
         header = HEADER[: HEADER.index("uint8_t gridprofile_two")]
-        paths = {entries.LIST: listed, entries.HEADER: header, CATEGORY_FILE: free, C_CATEGORY_FILE: C_CATEGORY[: C_CATEGORY.index("#[")]}
+        paths = {entries.LIST: listed, entries.HEADER: header, CATEGORY_FILE: free}
+        paths[C_CATEGORY_FILE] = C_CATEGORY[: C_CATEGORY.index("#[")]
         self.assertEqual(self.problems(**paths), [])
         paths[CATEGORY_FILE] = free.replace("category1 as p", "category3").replace("Two p", "Two category3")
         self.assertTrue(any("is not parameters.Categories.category1" in each for each in self.problems(**paths)))
 
     def test_a_name_is_that_of_the_category(self):
         named = "gridprofile_category3_two"
+        at = HEADER.index("uint8_t gridprofile_two")
         changed = {
             entries.LIST: LIST.replace("gridprofile_two", named),
-            entries.HEADER: HEADER[: HEADER.index("uint8_t gridprofile_two")],
-            "include/gridprofile_category3.h": HEADER[HEADER.index("uint8_t gridprofile_two") :].replace("gridprofile_two", named),
+            entries.HEADER: HEADER[:at],
+            "include/gridprofile_category3.h": HEADER[at:].replace("gridprofile_two", named),
             CATEGORY_FILE: CATEGORY.replace("gridprofile_two", named),
             C_CATEGORY_FILE: C_CATEGORY.replace("gridprofile_two", named),
         }
         said = f"gridprofile_c::category1::{named} has the name of another category"
         self.assertEqual(self.problems(**changed), [said])
-        self.refuses("gridprofile_category3_one has the name", INTERFACE_FILE, "gridprofile_one", "gridprofile_category3_one",
-                     **{entries.LIST: LIST.replace("gridprofile_one", "gridprofile_category3_one")})
+        named = "gridprofile_category3_one"
+        listed = {entries.LIST: LIST.replace("gridprofile_one", named)}
+        self.refuses(f"{named} has the name", INTERFACE_FILE, "gridprofile_one", named, **listed)
 
     def test_the_file_of_a_category_uses_no_other(self):
         sizes_of_1 = CATEGORY[: CATEGORY.index("ghost use Rattle.deep")]
@@ -794,7 +807,8 @@ class Lists(Repository):
     def test_exports_are_listed(self):
         self.refuses("lacks the exported gridprofile_one", entries.LIST, "gridprofile_one", "-")
         more, lacks = C_CATEGORY[C_CATEGORY.index("#[") :].replace("_two", "_six"), "lacks the exported gridprofile_six"
-        self.refuses(lacks, C_CATEGORY_FILE, f"{EXPORT} gridprofile_two", f"mod in_here {{ {more} }}\n{EXPORT} gridprofile_two")
+        two = f"{EXPORT} gridprofile_two"
+        self.refuses(lacks, C_CATEGORY_FILE, two, f"mod in_here {{ {more} }}\n{two}")
         self.refuses(lacks, C_CATEGORY_FILE, **{"crates/gridprofile_c/src/orphan.rt": more})
 
     def test_an_exported_name_is_declared_once_beside_the_librarys(self):

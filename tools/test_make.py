@@ -120,7 +120,8 @@ class Make(unittest.TestCase):
             return ""
 
     def start(self, *words, **environment):
-        env = {"PATH": self.path, "CALLS": self.file("calls"), "PIDS": self.file("pids"), "KIT": "1", "HANG": "", "FAIL": "", **environment}
+        files = {"PATH": self.path, "CALLS": self.file("calls"), "PIDS": self.file("pids")}
+        env = {**files, "KIT": "1", "HANG": "", "FAIL": "", **environment}
         pipes = {"stdout": subprocess.PIPE, "stderr": subprocess.STDOUT, "text": True, "start_new_session": True}
         # where these tests run in the background interrupts are ignored, and a shell cannot undo that
         heed = lambda: signal.signal(signal.SIGINT, signal.SIG_DFL)  # noqa: E731
