@@ -1,5 +1,6 @@
 -- Laws of the rows and of the bytes that are written. Assumes nothing.
 use mathlib.Core.Path.{◌≡◌, refl, ◌∙◌, sym, ap}
+use mathlib.Core.Bool.{true}
 use mathlib.Core.List.{List, [], ◌∷◌, ◌++◌, append_assoc, append-nil, map-append}
 use Prim.Native.Nat.{ℕ, ◌+◌, ◌≤◌, ◌<◌}
 use native.Mathlib.Numerals.{add-one}
@@ -8,11 +9,12 @@ use lib.Dec.{T}
 use lib.ListN.{length, get_or, set, take, drop, take-append-drop, length-append}
 use lib.Seq.{take-suc, take_all}
 use Rattle.decimal.specs.Decimal.{decimal, last_digits, Room, Appended}
-use Rattle.decimal.proofs.Decimal.{ten_digits}
 use Rattle.decimal.proofs.Stores.{sets_front, one_byte, then, room_as, room_first, room_after}
 use Rattle.profile.specs.declared.Profile.{Profile}
 use Rattle.profile.specs.Rules.{
+  Range,
   ◌to◌,
+  in_one_of,
   plain,
   number,
   fields_of,
@@ -69,9 +71,16 @@ module _ (p : Profile) where
 
 -- ---- how long rows of valid profiles are
 
+digits_of : (rs : List Range) (n : ℕ) → in_one_of rs n ≡ true → length (decimal n) ≤ most rs
+digits_of rs n e = (range_bounds rs n e).1
+
 two_digits : most nominal_hertz ≡ 2
 unfolding decimal last_digits
 two_digits = refl
+
+ten_digits : most (1 to 4294967295 ∷ []) ≡ 10
+unfolding decimal last_digits
+ten_digits = refl
 
 row_short : (table : List Class) (p : Profile) → T (valid table p) → length (row p) ≤ longest_row
 unfolding obeys fields_of
@@ -81,9 +90,11 @@ row_short table p ok =
       arith,
       row_length p,
       key_length p,
-      (range_bounds nominal_hertz p.hertz (valid_hertz table p ok)).1,
+      digits_of nominal_hertz p.hertz (valid_hertz table p ok),
       two_digits,
-      ten_digits p.serial (range_bounds (1 to 4294967295 ∷ []) p.serial serial).2,
+      digits_of
+          (1 to 4294967295 ∷ []) p.serial serial,
+      ten_digits,
     )
 
 pub rows_fit : (table : List Class) → RowsFit table

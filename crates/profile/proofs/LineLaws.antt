@@ -2,13 +2,13 @@
 use mathlib.Core.Path.{◌≡◌, refl, ◌∙◌, sym, ap, ap₂}
 use mathlib.Core.Bool.{Bool, true, false, false≢true}
 use mathlib.Core.List.{List, [], ◌∷◌, ◌++◌, map, append_assoc, append-nil}
-use Prim.Native.Nat.{ℕ, suc, ◌+◌, max, ◌≤◌}
+use Prim.Native.Nat.{ℕ, suc, ◌+◌, max, ◌≤◌, ◌<◌}
 use native.Mathlib.Omega.{arith}
 use lib.Dec.{eqb, lit≤}
-use lib.ListN.{length, take, drop, get_or, set, take-append-drop, length-append}
-use lib.Seq.{drop-append_seam}
+use lib.ListN.{length, take, drop, get_or, set, take-append-drop, length-append, drop_of_length-le}
+use lib.Seq.{drop-append_seam, drop-drop, drop-length}
 use borrow.Author.Tests.{eqb-true, eq-eqb, ne_eqb}
-use Rattle.decimal.specs.Decimal.{decimal, last_digits, largest, is_digit, leading_number, after_number, NumberBehind, Room, Appended}
+use Rattle.decimal.specs.Decimal.{decimal, last_digits, largest, is_digit, leading_digits, value_from, leading_number, after_number, NumberAt, NumberBehind, Room, Appended}
 use Rattle.decimal.specs.declared.Number.{Number}
 use Rattle.decimal.proofs.Decimal.{one_digit, number_before, after_before}
 use Rattle.decimal.proofs.Stores.{one_byte, then, appended_as, room_as, room_after}
@@ -285,10 +285,35 @@ scanned_line p e =
 -- ---- reading field by field, at places of the line
 
 module _ (line : List ℕ) (at kind : ℕ) where
-  -- a field's number stands behind its lead
-  pub field_found : {r : Number} → NumberBehind line at (length (lead kind)) r → FieldAt line at kind r
+  past : drop (length (lead kind)) (drop at line) ≡ drop (at + length (lead kind)) line
+  past = drop-drop (length (lead kind)) at line
+
+  -- nothing stands past the end
+  pub field_missing : length line < at + length (lead kind) → FieldAt line at kind (record { value = 0; end = length line })
+  unfolding field_number after_field leading_number after_number leading_digits value_from
+  field_missing h =
+      let beyond : length line ≤ at + length (lead kind) = omega arith in
+      let none : drop (length (lead kind)) (drop at line) ≡ [] = past ∙ drop_of_length-le line beyond in
+      record {
+        value = sym (ap leading_number none);
+        after = drop-length line ∙ sym (ap after_number none);
+        within = omega arith;
+      }
+
+  pub field_found : {r : Number} → at + length (lead kind) ≤ length line → NumberAt line (at + length (lead kind)) r
+      → FieldAt line at kind r
   unfolding field_number after_field
-  field_found found = record { value = found.value; after = found.after; within = found.within }
+  field_found h found =
+      record {
+        value = found.value ∙ sym (ap leading_number past);
+        after = found.after ∙ sym (ap after_number past);
+        within = found.within h;
+      }
+
+  -- a field's number stands behind its lead
+  pub field_behind : {r : Number} → NumberBehind line at (length (lead kind)) r → FieldAt line at kind r
+  unfolding field_number after_field
+  field_behind found = record { value = found.value; after = found.after; within = found.within }
 
   pub trip_found : {limit : Limit} {size delay : Number} → FieldAt line at kind size → FieldAt line size.end plain delay
       → limit ≡ limit_of kind size.value

@@ -14,7 +14,13 @@ use Rattle.decimal.specs.Decimal.{decimal, largest}
 use Rattle.decimal.proofs.Decimal.{length_mono}
 use Rattle.profile.specs.declared.Profile.{Profile}
 use Rattle.outcome.specs.Result.{done, answer}
-use Rattle.profile.specs.Rules.{Range, ◌to◌, contains, low, high, in_one_of, share, above, below, plain, number, Field, trip_fields, rate_fields, fields_of, line_kind, one, nominal_hertz, trip_rules, rate_rules, Rule, rules, fits, obeys, Class, class_in, is_class, letters, valid}
+use Rattle.profile.specs.Rules.{Range, ◌to◌, contains, in_one_of, share, above, below, plain, number, Field, trip_fields, rate_fields, fields_of, line_kind, one, nominal_hertz, trip_rules, rate_rules, Rule, rules, fits, obeys, Class, class_in, is_class, letters, valid}
+
+abbrev pub lowest : Range → ℕ
+lowest (low to high) = low
+
+abbrev pub highest : Range → ℕ
+highest (low to high) = high
 
 -- ---- tests
 
@@ -67,10 +73,6 @@ module _ (low high n : ℕ) where
 
   pub over : high < n → contains (low to high) n ≡ false
   over h = ap (λ (b : Bool). leb low n && b) (lt-leb n high h) ∙ and-false (leb low n)
-
--- what a range holds lies between its ends
-pub within : (r : Range) (n : ℕ) → contains r n ≡ true → (low r ≤ n) × (n ≤ high r)
-within (l to h) n e = (leb-true l n (and_first (leb l n) _ e), leb-true n h (and_rest (leb l n) _ e))
 
 -- a range of one number is a comparison
 pub one_number : (a n : ℕ) → contains (a to a) n ≡ eqb n a
@@ -187,18 +189,21 @@ valid_hertz table p ok =
 
 -- ---- what a range says of the digits of its numbers
 
+within : (r : Range) (n : ℕ) → contains r n ≡ true → (lowest r ≤ n) × (n ≤ highest r)
+within (low to high) n e = (leb-true low n (and_first (leb low n) _ e), leb-true n high (and_rest (leb low n) _ e))
+
 -- the fewest and the most digits that numbers of some ranges have, and the largest of the numbers
 abbrev pub fewest : List Range → ℕ
 fewest [] = length (decimal largest)
-fewest (r ∷ rs) = min (length (decimal (low r))) (fewest rs)
+fewest (r ∷ rs) = min (length (decimal (lowest r))) (fewest rs)
 
 abbrev pub most : List Range → ℕ
 most [] = 0
-most (r ∷ rs) = max (length (decimal (high r))) (most rs)
+most (r ∷ rs) = max (length (decimal (highest r))) (most rs)
 
 abbrev pub top : List Range → ℕ
 top [] = 0
-top (r ∷ rs) = max (high r) (top rs)
+top (r ∷ rs) = max (highest r) (top rs)
 
 pub range_bounds : (rs : List Range) (n : ℕ) → in_one_of rs n ≡ true
     → (fewest rs ≤ length (decimal n)) × (length (decimal n) ≤ most rs) × (n ≤ top rs)
@@ -207,6 +212,6 @@ range_bounds (r ∷ rs) n e =
     ⊎_elim
     (λ here.
     let bounds = within r n here in
-    omega (arith, length_mono n (low r) bounds.0, length_mono (high r) n bounds.1, bounds))
+    omega (arith, length_mono n (lowest r) bounds.0, length_mono (highest r) n bounds.1, bounds))
     (λ later. let bounds = range_bounds rs n later in omega (arith, bounds))
     (either (contains r n) (in_one_of rs n) e)
