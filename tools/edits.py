@@ -18,6 +18,12 @@ ERROR = re.compile(r"^(?P<file>\S+?):\d+:\d+: error(?:\[[^\]]*\])?: (?P<text>.*)
 UNPROVED = re.compile(r"^note: (?P<file>\S+?):\d+:\d+: (?P<text>it is not proved that .*)$")
 VERDICT = re.compile(r"^fn (?P<name>\S+): (?P<proved>proved$)?")
 EACH = re.compile(r"^each: (\S+)$", re.M)
+# rt found values that break what is to be proved there.
+BROKEN = "the facts known there allow values"
+# What is missing, and the goals that are left. A goal is called after the conditions that lead to it, as they are written.
+MISSING = re.compile(r"has no (?:field )?`([^`]+)`")
+LEFT = re.compile(r"^note: \S+?:\d+:\d+: it is not proved that .*?\(`([^`]+)`\)", re.M)
+CONDITION = re.compile(r"\b(?:if|then|else)-([^\s`.,()+]+)", re.I)
 # What rt says of an edit. Behind a refusal follows its first fact, cut short, or in parentheses why it says little.
 TRIED = re.compile(r"^rt: must-fail (?P<name>\S+/\S+)\.edit: (?P<came>.*)$", re.M)
 REFUSED = "refused, as it must be"
@@ -80,14 +86,16 @@ def came_to(said):
 
 
 def told(came):
-    """Whether what rt said of an edit settles it, and its problem or None. rt tells the first fact alone and cuts it
-    short: where that is none, or there is none, all that a check says has to be looked at."""
+    """Whether what rt said of an edit settles it, and its problem or None. rt passes over names that are missing, tells
+    the first fact alone and cuts it short: where that is none, and where it is that something is not proved, which may be
+    for want of an answer that names another goal, all that a check says has to be looked at."""
     if came is None:
         return True, "it was not tried"
     if not came.startswith(REFUSED) or came.startswith(f"{REFUSED} ("):
         return True, f"it is not refused by a fact: {came[:200]}"
     first = next(errors([came[len(REFUSED) + 2 :]]), None)
-    return judged(first) is None, None
+    settled = judged(first) is None and (first[0].startswith("proofs/") or BROKEN[:24] in first[1])
+    return settled, None
 
 
 def text_of(path):
@@ -126,13 +134,40 @@ def make(edit, folder):
     return before
 
 
+def fit(log, folder):
+    """Brings the names of the edited conditions into the proof files of their functions, and returns what stood there
+    before: an edit of a condition renames the goals behind it, and an answer under the old name refutes nothing."""
+    before, left = {}, {new for goal in LEFT.findall(log) for new in CONDITION.findall(goal)}
+    for file, text in errors(lines_of(log)):
+        missing = MISSING.search(text)
+        if not (missing and UNFIT.search(text) and file.startswith("proofs/")):
+            continue
+        paths = glob.glob(os.path.join(folder, os.path.dirname(file), "*.antt"))
+        known = {name for path in paths for name in CONDITION.findall(text_of(path))}
+        new = left - known or set(CONDITION.findall(text[missing.end() :])) - known
+        old = [name for name in CONDITION.findall(missing.group(1)) if name in known]
+        if len(new) != 1 or len(old) != 1:
+            continue
+        for path in paths:
+            before.setdefault(path, text_of(path))
+            name = re.compile(rf"\b((?:if|then|else)-){re.escape(old[0])}(?![\w-])", re.I)
+            with open(path, "w", encoding="utf-8") as out:
+                out.write(name.sub(rf"\g<1>{min(new)}", before[path]))
+    return before
+
+
 def log_of(edit, crate, work):
-    """All that the check of a crate says with this edit."""
+    """All that the check of a crate says with this edit. Where it says first that a name is missing, the proof files are
+    made to fit, and it is checked once more."""
     folder = os.path.join(work, "crates", crate)
+    pipe = {"stdin": subprocess.DEVNULL, "stdout": subprocess.PIPE, "stderr": subprocess.STDOUT}
     before = make(edit, folder)
     try:
-        pipe = {"stdin": subprocess.DEVNULL, "stdout": subprocess.PIPE, "stderr": subprocess.STDOUT}
-        return subprocess.run(["rt", "check"], cwd=folder, text=True, errors="replace", **pipe).stdout
+        log = subprocess.run(["rt", "check"], cwd=folder, text=True, errors="replace", **pipe).stdout
+        if problem(log) and (changed := fit(log, folder)):
+            before = {**changed, **before}
+            log = subprocess.run(["rt", "check"], cwd=folder, text=True, errors="replace", **pipe).stdout
+        return log
     finally:
         for path, text in before.items():
             with open(path, "w", encoding="utf-8") as file:

@@ -91,6 +91,9 @@ SAID_OF = {
     "fact": f"refused, as it must be: ./{WRONG}",
     "cut": "refused, as it must be: specs/Laws.antt:1:1: error: `t`: as printed, the two types differ",
     "bare": "refused, as it must be",
+    "left": "refused, as it must be: note: src/lib.rt:1:1: it is not proved that x (`returns`); `search` gave up",
+    "broken": "refused, as it must be: note: src/lib.rt:1:1: it is not proved that x (`returns`); "
+    "the facts known there allow val",
     "unfit": f"refused, as it must be (only because a proof file names what the edit took away): {UNFIT}",
     "limit": "refused, as it must be (only by a limit of the prover, which gave no verdict)",
     "bad": "BAD EDIT: an 'old:' text is in src/lib.rt 0 times, and not once",
@@ -145,13 +148,13 @@ class Tries(unittest.TestCase):
             return 0
 
     def test_what_rt_says_is_enough(self):
-        said = {name: name for name in SAID_OF if name not in ("cut", "bare")}
+        said = {name: name for name in SAID_OF if name not in ("cut", "bare", "left")}
         for name in said:
             self.edit(name, WRONG)
         found, times = self.problems(**said)
         self.assertEqual(times, 0)
-        self.assertIsNone(found.pop("edit laws/fact"))
-        self.assertEqual(sorted(found), [f"edit laws/{name}" for name in sorted(said) if name != "fact"])
+        self.assertEqual((found.pop("edit laws/fact"), found.pop("edit laws/broken")), (None, None))
+        self.assertEqual(sorted(found), [f"edit laws/{name}" for name in sorted(said) if name not in ("fact", "broken")])
         self.assertTrue(all("not refused by a fact" in problem for problem in found.values()), found)
 
     def test_an_edit_that_was_not_tried(self):
@@ -159,11 +162,32 @@ class Tries(unittest.TestCase):
         self.assertEqual(self.problems(), ({"edit laws/lost": "it was not tried"}, 0))
 
     def test_where_rt_says_too_little_it_is_checked(self):
-        for word in ("cut", "bare"):
+        for word in ("cut", "bare", "left"):
             for new, well in ((WRONG, True), (UNFIT, False), ("logic=not-proved", False)):
                 self.edit("one", new)
                 found, _ = self.problems(one=word)
                 self.assertEqual(found["edit laws/one"] is None, well, (word, new, found))
+
+    def fitted(self, *left, missing="returns-then-a-gt-MAX"):
+        """What the answers are after a check that misses a name, with these goals left."""
+        answers = "then-a-gt-MAX : goal.then-a-gt-MAX = f c.if-a-gt-MAX c.if-a-gt-MAX-2 c.if-b-eq0 goal.Then-a-gt-MAX"
+        self.write("root/crates/laws/proofs/one/Answers.antt", answers)
+        log = f"./proofs/one/Answers.antt:1:1: error: `r`: module `G` has no `{missing}` that can be named from here\n"
+        log += "".join(f"note: src/lib.rt:1:1: it is not proved that x (`{goal}`)\n" for goal in left)
+        folder = os.path.join(self.root, "crates/laws")
+        before = edits.fit(log, folder)
+        after = edits.text_of(os.path.join(folder, "proofs/one/Answers.antt"))
+        self.assertEqual(list(before.values()), [answers] if after != answers else [])
+        return after
+
+    def test_an_edited_conditions_name_is_brought_over(self):
+        fitted = "then-a-gt8 : goal.then-a-gt8 = f c.if-a-gt8 c.if-a-gt-MAX-2 c.if-b-eq0 goal.Then-a-gt8"
+        self.assertEqual(self.fitted("returns-then-a-gt8"), fitted)
+        self.assertEqual(self.fitted("returns-then-a-gt8", "returns-then-b-eq0", "returns"), fitted)
+        for left in (("returns-then-a-gt8", "returns-then-c"), ("returns",), ()):
+            self.assertNotIn("a-gt8", self.fitted(*left))
+        for missing in ("returns-then-d", "overflow_add"):
+            self.assertNotIn("a-gt8", self.fitted("returns-then-a-gt8", missing=missing))
 
     def test_each_is_checked(self):
         self.edit("one", f"{WRONG}", "each: laws")
