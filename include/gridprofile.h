@@ -147,11 +147,11 @@ extern "C" {
 
 /* SHAKE128 (FIPS 202) of the input, as many bytes as `out` has. Input and output may have any
  * length, 0 too. It never refuses.
- * Stack: 704 bytes. */
+ * Stack: 640 bytes. */
 void gridprofile_shake128(const uint8_t *input, size_t input_len, uint8_t *out, size_t out_len);
 
 /* SHAKE256, in the same way.
- * Stack: 704 bytes. */
+ * Stack: 640 bytes. */
 void gridprofile_shake256(const uint8_t *input, size_t input_len, uint8_t *out, size_t out_len);
 
 /* Packs any number of values, a byte each, 7 bits for each from the lowest bit of the first byte
@@ -164,7 +164,7 @@ uint8_t gridprofile_pack_values(const uint8_t *values, size_t values_len, uint8_
 /* Unpacks values_len values. Refuses with 1 where packed_len is not
  * GRIDPROFILE_PACKED_VALUES_BYTES(values_len), then with 3 where a field is 127 or a spare bit of
  * the last byte is 1.
- * Stack: 384 bytes. */
+ * Stack: 448 bytes. */
 uint8_t gridprofile_unpack_values(const uint8_t *packed, size_t packed_len, uint8_t *values,
                                   size_t values_len);
 
@@ -177,33 +177,33 @@ uint8_t gridprofile_pack_exponents(const uint8_t *exponents, size_t exponents_le
 /* Unpacks exponents_len exponents. Refuses with 1 where packed_len is not
  * GRIDPROFILE_PACKED_EXPONENTS_BYTES(exponents_len), then with 3 where a field is 7 or a spare bit
  * of the last byte is 1.
- * Stack: 704 bytes. */
+ * Stack: 640 bytes. */
 uint8_t gridprofile_unpack_exponents(const uint8_t *packed, size_t packed_len, uint8_t *exponents,
                                      size_t exponents_len);
 
 /* Draws the matrix V, GRIDPROFILE_MATRIX_VALUES values row by row, from a block of
  * GRIDPROFILE_MATRIX_BLOCK_BYTES: its 7-bit fields in order, 127 dropped. Refuses with 1 where
  * either length is another, then with 2 where the block yields too few.
- * Stack: 4160 bytes. */
+ * Stack: 4096 bytes. */
 uint8_t gridprofile_sample_matrix(const uint8_t *block, size_t block_len, uint8_t *out,
                                   size_t out_len);
 
 /* Draws GRIDPROFILE_PLACES exponents from a block of GRIDPROFILE_EXPONENTS_BLOCK_BYTES: its 3-bit
  * fields in order, 7 dropped. Refuses as gridprofile_sample_matrix does.
- * Stack: 384 bytes. */
+ * Stack: 448 bytes. */
 uint8_t gridprofile_sample_exponents(const uint8_t *block, size_t block_len, uint8_t *out,
                                      size_t out_len);
 
 /* Draws GRIDPROFILE_PLACES mask values from a block of GRIDPROFILE_MASK_VALUES_BLOCK_BYTES: its
  * 7-bit fields in order, 127 dropped. Refuses as gridprofile_sample_matrix does.
- * Stack: 384 bytes. */
+ * Stack: 448 bytes. */
 uint8_t gridprofile_sample_mask_values(const uint8_t *block, size_t block_len, uint8_t *out,
                                        size_t out_len);
 
 /* Draws GRIDPROFILE_ROUNDS first challenges, 1 to 126, from a block of
  * GRIDPROFILE_FIRST_CHALLENGES_BLOCK_BYTES: its 7-bit fields in order, 126 and 127 dropped, each
  * kept one plus 1. Refuses as gridprofile_sample_matrix does.
- * Stack: 384 bytes. */
+ * Stack: 704 bytes. */
 uint8_t gridprofile_sample_first_challenges(const uint8_t *block, size_t block_len, uint8_t *out,
                                             size_t out_len);
 
@@ -211,7 +211,7 @@ uint8_t gridprofile_sample_first_challenges(const uint8_t *block, size_t block_l
  * ones among them, by a shuffle with the 16-bit fields of a block of
  * GRIDPROFILE_SECOND_CHALLENGE_BLOCK_BYTES. Byte j belongs to round j + 1. Refuses as
  * gridprofile_sample_matrix does.
- * Stack: 192 bytes. */
+ * Stack: 640 bytes. */
 uint8_t gridprofile_sample_second_challenge(const uint8_t *block, size_t block_len, uint8_t *out,
                                             size_t out_len);
 
@@ -227,7 +227,7 @@ uint8_t gridprofile_make_key(const uint8_t *private_seed, size_t private_seed_le
  * (GRIDPROFILE_SALT_BYTES) must be drawn afresh for each signature, and the master seed kept
  * secret; the library draws neither. Refuses with 1 where a length is another, then with 2 where a
  * draw is short: of the key, of the rounds, of the first or of the second challenges.
- * Stack: 69504 bytes. */
+ * Stack: 68032 bytes. */
 uint8_t gridprofile_sign(const uint8_t *private_seed, size_t private_seed_len,
                          const uint8_t *master_seed, size_t master_seed_len, const uint8_t *salt,
                          size_t salt_len, const uint8_t *message, size_t message_len,
@@ -238,7 +238,7 @@ uint8_t gridprofile_sign(const uint8_t *private_seed, size_t private_seed_len,
  * has a bad field; with 2 where a draw of the matrix, of the first or of the second challenges is
  * short; then, from the first round on, with 3 where a round has a bad field and with 2 where a draw
  * from its seed is short; last with 4 where one of the two digests over all rounds differs.
- * Stack: 17088 bytes. */
+ * Stack: 16192 bytes. */
 uint8_t gridprofile_verify(const uint8_t *key, size_t key_len, const uint8_t *message,
                            size_t message_len, const uint8_t *signature, size_t signature_len);
 
@@ -251,7 +251,7 @@ uint8_t gridprofile_verify(const uint8_t *key, size_t key_len, const uint8_t *me
  * GRIDPROFILE_ROUNDS, first_challenge not 1 to 126 or second_challenge not 0 or 1; with 2 where the
  * draw of the matrix is short; with 3 where the reply has a bad field or with 2 where a draw from
  * its seed is short; last with 4 where commitment or response differs.
- * Stack: 11200 bytes. */
+ * Stack: 12096 bytes. */
 uint8_t gridprofile_verify_round(const uint8_t *key, size_t key_len, const uint8_t *salt,
                                  size_t salt_len, uint32_t round, const uint8_t *commitment_0,
                                  size_t commitment_0_len, const uint8_t *commitment_1,
@@ -314,7 +314,7 @@ uint8_t gridprofile_write_line(const uint8_t *table, size_t table_len, const uin
  * formula, or with 12 where a divisor in it is 0 or the result of an operation is outside
  * -2000000000 to 2000000000; last with 5 where the number of a limit is outside its range. *length
  * is then as it was.
- * Stack: 4736 bytes. */
+ * Stack: 4864 bytes. */
 uint8_t gridprofile_evaluate_line(const uint8_t *table, size_t table_len, const uint8_t *input,
                                   size_t input_len, uint8_t *line, size_t line_len,
                                   size_t *length);
@@ -328,7 +328,7 @@ uint8_t gridprofile_evaluate_line(const uint8_t *table, size_t table_len, const 
  * letter, then second), then by class, then by hertz, whatever the order of the lines. An input of
  * more than GRIDPROFILE_PREVIEW_MAX_BYTES gives only the text "too long" and a line feed. Refuses
  * with 1 where table_len or out_len is another; *length is then as it was.
- * Stack: 2240 bytes. */
+ * Stack: 2304 bytes. */
 uint8_t gridprofile_preview(const uint8_t *table, size_t table_len, const uint8_t *input,
                             size_t input_len, uint8_t *out, size_t out_len, size_t *length);
 
@@ -339,7 +339,7 @@ uint8_t gridprofile_preview(const uint8_t *table, size_t table_len, const uint8_
  * the package is for. Refuses with 1 where one of these or the buffer has another length or the line
  * has no line's length; with 5 where the line breaks a rule; with 2 where a draw is short. *length
  * is then as it was.
- * Stack: 69952 bytes. */
+ * Stack: 68352 bytes. */
 uint8_t gridprofile_make_package(const uint8_t *table, size_t table_len,
                                  const uint8_t *private_seed, size_t private_seed_len,
                                  const uint8_t *master_seed, size_t master_seed_len,
@@ -371,7 +371,7 @@ uint8_t gridprofile_make_package(const uint8_t *table, size_t table_len,
  * the profile is for another country, class or hertz; with 7 where its serial is not greater than
  * the one stored for these three; with 8 where nothing is stored for them and
  * GRIDPROFILE_STORE_SLOTS others are.
- * Stack: 17600 bytes. */
+ * Stack: 16576 bytes. */
 uint8_t gridprofile_load(uint8_t *store, size_t store_len, const uint8_t *key, size_t key_len,
                          const uint8_t *package, size_t package_len, const uint8_t *country,
                          size_t country_len, uint32_t class_letter, uint32_t hertz);
@@ -391,7 +391,7 @@ uint8_t gridprofile_load_table(uint8_t *store, size_t store_len, const uint8_t *
  * with 1 where image or buffer have another length; with 9 where nothing is stored for them; with 5
  * where what is stored breaks a rule, which is never so in an image of zeros or in what loads made
  * of one. *length is then as it was.
- * Stack: 512 bytes. */
+ * Stack: 448 bytes. */
 uint8_t gridprofile_lookup(const uint8_t *store, size_t store_len, const uint8_t *country,
                            size_t country_len, uint32_t class_letter, uint32_t hertz,
                            uint8_t *line, size_t line_len, size_t *length);

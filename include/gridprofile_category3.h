@@ -44,7 +44,7 @@ extern "C" {
 /* Draws the matrix V, GRIDPROFILE_CATEGORY3_MATRIX_VALUES values row by row, from a block of
  * GRIDPROFILE_CATEGORY3_MATRIX_BLOCK_BYTES: its 7-bit fields in order, 127 dropped. Refuses with 1
  * where either length is another, then with 2 where the block yields too few.
- * Stack: 8704 bytes. */
+ * Stack: 8640 bytes. */
 uint8_t gridprofile_category3_sample_matrix(const uint8_t *block, size_t block_len, uint8_t *out,
                                             size_t out_len);
 
@@ -65,14 +65,14 @@ uint8_t gridprofile_category3_sample_mask_values(const uint8_t *block, size_t bl
 /* Draws GRIDPROFILE_CATEGORY3_ROUNDS first challenges, 1 to 126, from a block of
  * GRIDPROFILE_CATEGORY3_FIRST_CHALLENGES_BLOCK_BYTES: its 7-bit fields in order, 126 and 127
  * dropped, each kept one plus 1. Refuses with 1, then 2.
- * Stack: 448 bytes. */
+ * Stack: 704 bytes. */
 uint8_t gridprofile_category3_sample_first_challenges(const uint8_t *block, size_t block_len,
                                                       uint8_t *out, size_t out_len);
 
 /* Draws the second challenge, 0 or 1 for each of GRIDPROFILE_CATEGORY3_ROUNDS rounds and
  * GRIDPROFILE_CATEGORY3_ONES ones among them, from a block of
  * GRIDPROFILE_CATEGORY3_SECOND_CHALLENGE_BLOCK_BYTES. Refuses with 1, then 2.
- * Stack: 320 bytes. */
+ * Stack: 640 bytes. */
 uint8_t gridprofile_category3_sample_second_challenge(const uint8_t *block, size_t block_len,
                                                       uint8_t *out, size_t out_len);
 
@@ -86,7 +86,7 @@ uint8_t gridprofile_category3_make_key(const uint8_t *private_seed, size_t priva
  * GRIDPROFILE_CATEGORY3_SIGNATURE_BYTES. The master seed (GRIDPROFILE_CATEGORY3_MASTER_SEED_BYTES)
  * and the salt (GRIDPROFILE_CATEGORY3_SALT_BYTES) must be drawn afresh for each signature, and the
  * master seed kept secret; the library draws neither. Refuses with 1, then 2.
- * Stack: 144768 bytes. */
+ * Stack: 143296 bytes. */
 uint8_t gridprofile_category3_sign(const uint8_t *private_seed, size_t private_seed_len,
                                    const uint8_t *master_seed, size_t master_seed_len,
                                    const uint8_t *salt, size_t salt_len, const uint8_t *message,
@@ -96,7 +96,7 @@ uint8_t gridprofile_category3_sign(const uint8_t *private_seed, size_t private_s
  * (GRIDPROFILE_CATEGORY3_KEY_BYTES): 0 means that it holds. Refuses with 1, 3, 2 and 4 as
  * gridprofile_verify does; a key or a signature of another category has another length, and so is
  * 1.
- * Stack: 25792 bytes. */
+ * Stack: 24832 bytes. */
 uint8_t gridprofile_category3_verify(const uint8_t *key, size_t key_len, const uint8_t *message,
                                      size_t message_len, const uint8_t *signature,
                                      size_t signature_len);
@@ -106,7 +106,7 @@ uint8_t gridprofile_category3_verify(const uint8_t *key, size_t key_len, const u
  * GRIDPROFILE_CATEGORY3_REPLY_0_BYTES under second challenge 0 and
  * GRIDPROFILE_CATEGORY3_REPLY_1_BYTES under 1, and round is 1 to GRIDPROFILE_CATEGORY3_ROUNDS.
  * Refuses with 1, 3, 2, the reply's 3 or 2, and 4.
- * Stack: 19904 bytes. */
+ * Stack: 20736 bytes. */
 uint8_t gridprofile_category3_verify_round(const uint8_t *key, size_t key_len, const uint8_t *salt,
                                            size_t salt_len, uint32_t round,
                                            const uint8_t *commitment_0, size_t commitment_0_len,
@@ -120,7 +120,7 @@ uint8_t gridprofile_category3_verify_round(const uint8_t *key, size_t key_len, c
  * not touched. Seeds and salt are as for gridprofile_category3_sign, the table (the image of a class
  * table, GRIDPROFILE_TABLE_IMAGE_BYTES) is as for gridprofile_make_package. Refuses with 1, 5 and 2;
  * *length is then as it was.
- * Stack: 145216 bytes. */
+ * Stack: 143616 bytes. */
 uint8_t gridprofile_category3_make_package(const uint8_t *table, size_t table_len,
                                            const uint8_t *private_seed, size_t private_seed_len,
                                            const uint8_t *master_seed, size_t master_seed_len,
@@ -132,7 +132,7 @@ uint8_t gridprofile_category3_make_package(const uint8_t *table, size_t table_le
  * GRIDPROFILE_CATEGORY3_PACKAGE_MAX_BYTES into a store, as gridprofile_load does, which says what a
  * device is set to, what a store is and how it outlasts a loss of power. Refuses with 10, 1, 3, 2, 4,
  * 5, 6, 7 and 8 in that function's order.
- * Stack: 26304 bytes. */
+ * Stack: 25280 bytes. */
 uint8_t gridprofile_category3_load(uint8_t *store, size_t store_len, const uint8_t *key,
                                    size_t key_len, const uint8_t *package, size_t package_len,
                                    const uint8_t *country, size_t country_len,

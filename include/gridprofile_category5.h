@@ -44,35 +44,35 @@ extern "C" {
 /* Draws the matrix V, GRIDPROFILE_CATEGORY5_MATRIX_VALUES values row by row, from a block of
  * GRIDPROFILE_CATEGORY5_MATRIX_BLOCK_BYTES: its 7-bit fields in order, 127 dropped. Refuses with 1
  * where either length is another, then with 2 where the block yields too few.
- * Stack: 15424 bytes. */
+ * Stack: 15360 bytes. */
 uint8_t gridprofile_category5_sample_matrix(const uint8_t *block, size_t block_len, uint8_t *out,
                                             size_t out_len);
 
 /* Draws GRIDPROFILE_CATEGORY5_PLACES exponents from a block of
  * GRIDPROFILE_CATEGORY5_EXPONENTS_BLOCK_BYTES: its 3-bit fields in order, 7 dropped. Refuses with
  * 1, then 2.
- * Stack: 512 bytes. */
+ * Stack: 448 bytes. */
 uint8_t gridprofile_category5_sample_exponents(const uint8_t *block, size_t block_len, uint8_t *out,
                                                size_t out_len);
 
 /* Draws GRIDPROFILE_CATEGORY5_PLACES mask values from a block of
  * GRIDPROFILE_CATEGORY5_MASK_VALUES_BLOCK_BYTES: its 7-bit fields in order, 127 dropped. Refuses
  * with 1, then 2.
- * Stack: 512 bytes. */
+ * Stack: 448 bytes. */
 uint8_t gridprofile_category5_sample_mask_values(const uint8_t *block, size_t block_len,
                                                  uint8_t *out, size_t out_len);
 
 /* Draws GRIDPROFILE_CATEGORY5_ROUNDS first challenges, 1 to 126, from a block of
  * GRIDPROFILE_CATEGORY5_FIRST_CHALLENGES_BLOCK_BYTES: its 7-bit fields in order, 126 and 127
  * dropped, each kept one plus 1. Refuses with 1, then 2.
- * Stack: 576 bytes. */
+ * Stack: 704 bytes. */
 uint8_t gridprofile_category5_sample_first_challenges(const uint8_t *block, size_t block_len,
                                                       uint8_t *out, size_t out_len);
 
 /* Draws the second challenge, 0 or 1 for each of GRIDPROFILE_CATEGORY5_ROUNDS rounds and
  * GRIDPROFILE_CATEGORY5_ONES ones among them, from a block of
  * GRIDPROFILE_CATEGORY5_SECOND_CHALLENGE_BLOCK_BYTES. Refuses with 1, then 2.
- * Stack: 384 bytes. */
+ * Stack: 576 bytes. */
 uint8_t gridprofile_category5_sample_second_challenge(const uint8_t *block, size_t block_len,
                                                       uint8_t *out, size_t out_len);
 
@@ -86,7 +86,7 @@ uint8_t gridprofile_category5_make_key(const uint8_t *private_seed, size_t priva
  * GRIDPROFILE_CATEGORY5_SIGNATURE_BYTES. The master seed (GRIDPROFILE_CATEGORY5_MASTER_SEED_BYTES)
  * and the salt (GRIDPROFILE_CATEGORY5_SALT_BYTES) must be drawn afresh for each signature, and the
  * master seed kept secret; the library draws neither. Refuses with 1, then 2.
- * Stack: 252928 bytes. */
+ * Stack: 251520 bytes. */
 uint8_t gridprofile_category5_sign(const uint8_t *private_seed, size_t private_seed_len,
                                    const uint8_t *master_seed, size_t master_seed_len,
                                    const uint8_t *salt, size_t salt_len, const uint8_t *message,
@@ -96,7 +96,7 @@ uint8_t gridprofile_category5_sign(const uint8_t *private_seed, size_t private_s
  * (GRIDPROFILE_CATEGORY5_KEY_BYTES): 0 means that it holds. Refuses with 1, 3, 2 and 4 as
  * gridprofile_verify does; a key or a signature of another category has another length, and so is
  * 1.
- * Stack: 38528 bytes. */
+ * Stack: 37632 bytes. */
 uint8_t gridprofile_category5_verify(const uint8_t *key, size_t key_len, const uint8_t *message,
                                      size_t message_len, const uint8_t *signature,
                                      size_t signature_len);
@@ -106,7 +106,7 @@ uint8_t gridprofile_category5_verify(const uint8_t *key, size_t key_len, const u
  * GRIDPROFILE_CATEGORY5_REPLY_0_BYTES under second challenge 0 and
  * GRIDPROFILE_CATEGORY5_REPLY_1_BYTES under 1, and round is 1 to GRIDPROFILE_CATEGORY5_ROUNDS.
  * Refuses with 1, 3, 2, the reply's 3 or 2, and 4.
- * Stack: 32640 bytes. */
+ * Stack: 33536 bytes. */
 uint8_t gridprofile_category5_verify_round(const uint8_t *key, size_t key_len, const uint8_t *salt,
                                            size_t salt_len, uint32_t round,
                                            const uint8_t *commitment_0, size_t commitment_0_len,
@@ -120,7 +120,7 @@ uint8_t gridprofile_category5_verify_round(const uint8_t *key, size_t key_len, c
  * not touched. Seeds and salt are as for gridprofile_category5_sign, the table (the image of a class
  * table, GRIDPROFILE_TABLE_IMAGE_BYTES) is as for gridprofile_make_package. Refuses with 1, 5 and 2;
  * *length is then as it was.
- * Stack: 253376 bytes. */
+ * Stack: 251776 bytes. */
 uint8_t gridprofile_category5_make_package(const uint8_t *table, size_t table_len,
                                            const uint8_t *private_seed, size_t private_seed_len,
                                            const uint8_t *master_seed, size_t master_seed_len,
@@ -132,7 +132,7 @@ uint8_t gridprofile_category5_make_package(const uint8_t *table, size_t table_le
  * GRIDPROFILE_CATEGORY5_PACKAGE_MAX_BYTES into a store, as gridprofile_load does, which says what a
  * device is set to, what a store is and how it outlasts a loss of power. Refuses with 10, 1, 3, 2, 4,
  * 5, 6, 7 and 8 in that function's order.
- * Stack: 39040 bytes. */
+ * Stack: 38016 bytes. */
 uint8_t gridprofile_category5_load(uint8_t *store, size_t store_len, const uint8_t *key,
                                    size_t key_len, const uint8_t *package, size_t package_len,
                                    const uint8_t *country, size_t country_len,

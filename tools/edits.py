@@ -1,9 +1,11 @@
 """The must-fail check: an edit counts only where the prover refused it because a fact fails, not
 because the edit does not parse or because the proof file no longer fits the code's shape."""
 
+import concurrent.futures
 import contextlib
 import glob
 import os
+import queue
 import re
 import shutil
 import subprocess
@@ -15,7 +17,9 @@ UNFIT = re.compile(
     r"|expected type `(?:\S+\.)?(?:goal|Goals)\.[^`]*`,? but this has type `(?:\S+\.)?(?:goal|Goals)\."
 )
 ERROR = re.compile(r"^(?P<file>\S+?):\d+:\d+: error(?:\[[^\]]*\])?: (?P<text>.*)$")
-UNPROVED = re.compile(r"^note: (?P<file>\S+?):\d+:\d+: (?P<text>it is not proved that .*)$")
+# Of what a type promises of its values rt says so in other words.
+NOT_PROVED = r"(?:it is not proved that |`search` found no proof \()"
+UNPROVED = re.compile(rf"^note: (?P<file>\S+?):\d+:\d+: (?P<text>{NOT_PROVED}.*)$")
 VERDICT = re.compile(r"^fn (?P<name>\S+): (?P<proved>proved$)?")
 EACH = re.compile(r"^each: (\S+)$", re.M)
 # rt found values that break what is to be proved there.
@@ -74,7 +78,7 @@ def judged(first):
     part, text = first
     if UNFIT.search(text):
         return f"it makes the proof file unfit and refutes nothing ({part}: {text[:160]})"
-    computed = text.startswith("it is not proved that ") or "computed as far as they go" in text
+    computed = re.match(NOT_PROVED, text) or "computed as far as they go" in text
     if not part.startswith("proofs/") and not computed:
         return f"the edited text is itself in error ({part}: {text[:160]})"
     return None
@@ -174,17 +178,42 @@ def log_of(edit, crate, work):
                 file.write(text)
 
 
+def logs_of(root, edits):
+    """What a check says with each of these edits, by its path. Crates are done side by side, each in a copy that no other has."""
+    crates, logs, copies = {}, {}, queue.SimpleQueue()
+    for edit in edits:
+        crates.setdefault(edit.split(os.sep)[-3], []).append(edit)
+
+    def logs_in(crate):
+        work = copies.get()
+        try:
+            return {edit: log_of(edit, crate, work) for edit in crates[crate]}
+        finally:
+            copies.put(work)
+
+    workers = max(1, min(len(crates), os.cpu_count() or 1))
+    with contextlib.ExitStack() as stack, concurrent.futures.ThreadPoolExecutor(workers) as pool:
+        for _ in range(workers):
+            copies.put(stack.enter_context(copied(root)))
+        for found in pool.map(logs_in, sorted(crates, key=lambda crate: -len(crates[crate]))):
+            logs.update(found)
+    return logs
+
+
 def check(root, said):
     """A pair for each edit of each crate: what it is, and its problem or None, by what rt ci said. Where that does not
     tell, and where an edit has a line `each:`, the edit is made in a copy and its crate checked."""
-    came = came_to(said)
-    with copied(root) as work:
-        for edit in sorted(glob.glob(os.path.join(root, "crates", "*", "must-fail", "*.edit"))):
-            crate = edit.split(os.sep)[-3]
-            name = f"{crate}/{os.path.basename(edit)[: -len('.edit')]}"
-            settled, wrong = told(came.get(name))
-            modules = EACH.findall(text_of(edit))
-            log = "" if wrong or (settled and not modules) else log_of(edit, crate, work)
-            yield f"edit {name}", wrong if settled else problem(log)
-            for module in modules:
-                yield f"edit {name}, each of {module}", wrong or problem_of_each(log, module)
+    came, found, unclear = came_to(said), [], []
+    for edit in sorted(glob.glob(os.path.join(root, "crates", "*", "must-fail", "*.edit"))):
+        name = f"{edit.split(os.sep)[-3]}/{os.path.basename(edit)[: -len('.edit')]}"
+        settled, wrong = told(came.get(name))
+        modules = EACH.findall(text_of(edit))
+        found.append((edit, name, settled, wrong, modules))
+        if not wrong and (modules or not settled):
+            unclear.append(edit)
+    logs = logs_of(root, unclear)
+    for edit, name, settled, wrong, modules in found:
+        log = logs.get(edit, "")
+        yield f"edit {name}", wrong if settled else problem(log)
+        for module in modules:
+            yield f"edit {name}, each of {module}", wrong or problem_of_each(log, module)

@@ -1,6 +1,7 @@
 """The entries check: each listed entry asks for nothing and promises the one definition that the list names, of all
-its arguments and of its answer; its C function promises the same and makes one call, of the library's function of its
-name, which promises the same and is the entry or makes one call of it; list, exports and header agree."""
+its arguments and of its answer; its C function promises the same and makes one call, of the entry: the library's function
+of its name, or at a category the method of the library's entries at the sizes of that category; list, exports and header
+agree."""
 
 import glob
 import os
@@ -15,12 +16,16 @@ LIST = "docs/entries.txt"
 HEADER = "include/gridprofile.h"  # those of categories 3 and 5 stand beside it
 EXPORTS = "gridprofile_c"  # the crate of the C interface
 LIBRARY = "gridprofile"  # the crate with the same functions for callers in Rattle, each called by the one for C
+METHODS = (LIBRARY, "entries", "Entries")  # what is the same at each category, a method over the sizes of one
 TESTED = "tiny_sizes"  # exports to the tests alone
 SIZES = "parameters.Categories"  # the definitions of the categories' sizes
 
 LINE = re.compile(r"(\w+(?:::\w+)+)\s+(\w+|-)\s+(\w+\.\w+\.\w+)", re.A)
 ARRAY = re.compile(r"let mut (\w+) = \[ \d\w* ; ([\w .:()+*/%-]+) \] ; ")
 CALL = re.compile(r"(\w+(?: :: \w+)+) \( ([\w&, ]*)\)(?: ;)?")
+METHOD_CALL = re.compile(rf"{LIBRARY} :: (category\d+) :: entries \( \) \. (\w+) \( ([\w&, ]*)\)")
+OWN_SIZES = "self.now.category.sizes"  # how a method's contract names the sizes that it is at
+NUMBER_OF_RESULT = ["(", "number_in", "result", ")"]  # a refusal's number, or 0
 ANSWER = ("answer", "", "")
 RESULT = "result"  # the answer's name in contracts
 
@@ -65,10 +70,15 @@ def at(name, moment):
 # ---- the function of a path
 
 
+def file_of(path):
+    """The path of the module with a file that a function stands in: a method stands in that of its type."""
+    return METHODS[:-1] if path[:-1] == METHODS else path[:-1]
+
+
 def find(tree, path):
     """The public function of a path and its module. No second one of the name may stand in the file, so that a reader
     who looks for the name finds this one."""
-    module, public = tree.module(path[:-1])
+    module, public = tree.module(file_of(path))
     times = module.names.count(path[-1])
     if times != 1:
         raise Problem(f"{path[-1]} is declared {'twice or more' if times else 'nowhere'} in {module.file}")
@@ -83,10 +93,10 @@ def find(tree, path):
 # ---- what it promises
 
 
-def promise(function, may_ask):
-    """The tokens of the one `ensures`. A function that is called over scratch may have `requires`."""
+def promise(function):
+    """The tokens of the one `ensures`."""
     name, words = shown(function.path), [word for word, _, _ in function.clauses]
-    if "requires" in words and not may_ask:
+    if "requires" in words:
         raise Problem(f"{name} has a requires")
     if "ghost" in words:
         raise Problem(f"{name} has a ghost clause")
@@ -96,7 +106,7 @@ def promise(function, may_ask):
     if label:
         raise Problem(f"the ensures of {name} has a label, {label}")
     for token in tokens or ("",):
-        if not re.fullmatch(r"[A-Za-z0-9]\w*(?:\.\w+)?|\(|\)", token):
+        if token != OWN_SIZES and not re.fullmatch(r"[A-Za-z0-9]\w*(?:\.\w+)?|\(|\)", token):
             raise Problem(f"the ensures of {name} is not one name applied to arguments: it has `{token}`")
     return tokens
 
@@ -147,8 +157,16 @@ def hides_nothing(function, module, tokens):
 
 
 def words_of(tokens):
-    """The arguments of a contract one by one: a word and nothing, or of `x.now`, `x.old`, `x.new` the word and the moment."""
+    """The arguments of a contract one by one: a word and nothing, or of `x.now`, `x.old`, `x.new` the word and the moment. The
+    number of a result is the answer too."""
+    tokens = list(tokens)
+    for at in range(len(tokens) - len(NUMBER_OF_RESULT), -1, -1):
+        if tokens[at : at + len(NUMBER_OF_RESULT)] == NUMBER_OF_RESULT:
+            tokens[at : at + len(NUMBER_OF_RESULT)] = [RESULT]
     for token in tokens:
+        if token == OWN_SIZES:
+            yield "self", "now"
+            continue
         word, _, moment = token.partition(".")
         if token in ("(", ")") or ("." in token and moment not in ("now", "old", "new")):
             raise Problem(f"an argument, `{token}`, is not a name, `x.now`, `x.old` or `x.new`")
@@ -172,8 +190,8 @@ def meaning(function, module, word, moment):
     return "definition", definition(module, word), ""
 
 
-def contract(function, module, may_ask=False):
-    tokens = promise(function, may_ask)
+def contract(function, module):
+    tokens = promise(function)
     hides_nothing(function, module, tokens)
     name = definition(module, tokens[0])
     return Contract(name, [meaning(function, module, word, moment) for word, moment in words_of(tokens[1:])])
@@ -241,7 +259,7 @@ def has_own_sizes(tree, module):
 
 def imports(tree, path):
     """No import of a file with entries has another name than its definition, but a category's sizes and inner ones."""
-    module, _ = tree.module(path[:-1])
+    module, _ = tree.module(file_of(path))
     for taken in module.imports:
         named = taken.local == (taken.name or taken.path.split(".")[-1])
         if not named and not is_sizes(taken) and not is_inner(taken.path):
@@ -273,8 +291,19 @@ def is_named_by_category(function, module):
         raise Problem(f"{shown(function.path)} has the name of another category")
 
 
+def method_call(function):
+    """The call of a method of the entries at a category, which lends the sizes of that category as `self`."""
+    call = METHOD_CALL.fullmatch(" ".join(function.body))
+    if not call:
+        return None
+    arguments = [part.strip() for part in call.group(3).split(",") if part.strip()]
+    return Call((*METHODS, call.group(2)), [call.group(1), *arguments])
+
+
 def one_call(function):
     """The call that a body of local arrays and one call makes."""
+    if call := method_call(function):
+        return call
     text, at, hidden = " ".join(function.body), 0, [name for name, _ in function.parameters] + ["P"]
     while array := ARRAY.match(text, at):
         if array.group(1) in hidden:
@@ -296,8 +325,8 @@ def carried(argument, given, function, module):
     if kind != "parameter":
         return argument
     own = [name for name, _ in function.parameters]
-    if given[word] == "P" and "P" not in own and sizes(module) and not moment:
-        return "definition", sizes(module), ""
+    if word == "self" and re.fullmatch(r"category\d+", given[word]):
+        return "definition", f"{SIZES}.{given[word]}", ""
     if given[word] not in own:
         raise Problem(f"{shown(function.path)} lends `{given[word]}` for {word}, of which the contract speaks")
     return kind, given[word], moment
@@ -307,7 +336,7 @@ def promises_what_it_calls(tree, function, module, promised, call):
     """The contract of the function called, over the arguments of the call, is the caller's own."""
     names_a_crate(tree, module, call.path[0])
     called, inner = find(tree, call.path)
-    theirs = contract(called, inner, may_ask=True)
+    theirs = contract(called, inner)
     if theirs.name != promised.name:
         raise Problem(f"{shown(function.path)} promises {promised.name}, and {shown(call.path)} {theirs.name}")
     if len(called.parameters) != len(call.arguments) or called.result != function.result:
@@ -332,24 +361,39 @@ def c_function(tree, entry):
     imports(tree, function.path)
     is_named_by_category(function, module)
     call = one_call(function)
-    if call.path != (LIBRARY, *function.path[1:]):
-        calls = f"calls {shown(call.path)}, and not the function of its own name in {LIBRARY}"
+    if call.path != entry.path or call.path != own_path(function, module, call):
+        calls = f"calls {shown(call.path)}, and not the listed {shown(entry.path)} of its own name in {LIBRARY}"
         raise Problem(f"{shown(function.path)} {calls}")
     promises_what_it_calls(tree, function, module, promised, call)
-    library_function(tree, entry, call.path)
+    library_function(tree, entry, call)
 
 
-def library_function(tree, entry, path):
-    """What C's function calls keeps the same rules, and calls the entry where it is not itself the entry."""
-    function, module, promised = keeps(tree, path, entry.contract)
+def own_path(function, module, call):
+    """What a C function calls: in the module of a category the method that has its name behind the category's, at that
+    category; else the library's function of its name."""
+    if not sizes(module):
+        return (LIBRARY, *function.path[1:])
+    if call.arguments[:1] != [module.path[-1]]:
+        raise Problem(f"{shown(function.path)} calls the entries of another category")
+    return (*METHODS, re.sub(r"gridprofile_(?:category\d+_)?", "", function.path[-1]))
+
+
+def library_function(tree, entry, call):
+    """What C's function calls is a plain function; of a method, the sizes are those of the category."""
+    function, _, _ = keeps(tree, entry.path, entry.contract)
     if function.attributes or function.extern:
-        raise Problem(f"{shown(path)} is not a plain function")
-    imports(tree, path)
-    is_named_by_category(function, module)
-    call = one_call(function)
-    if entry.path not in (path, call.path):
-        raise Problem(f"{shown(path)} calls {shown(call.path)}, and not the listed {shown(entry.path)}")
-    promises_what_it_calls(tree, function, module, promised, call)
+        raise Problem(f"{shown(entry.path)} is not a plain function")
+    if entry.path[:-1] == METHODS:
+        makes_entries(tree, (LIBRARY, call.arguments[0], "entries"))
+
+
+def makes_entries(tree, path):
+    """The function of a category's module promises entries at the category's sizes."""
+    function, module = find(tree, path)
+    clauses = [(word, label, tokens) for word, label, tokens in function.clauses]
+    if function.parameters or clauses != [("ensures", None, ("result.category.sizes", "≡", "p"))]:
+        raise Problem(f"{shown(path)} does not promise entries at the sizes p")
+    has_own_sizes(tree, module)
 
 
 # ---- list, exports and header
@@ -400,7 +444,11 @@ def belongs(name, header, listed):
 
 
 def listed_once(entries, entry):
-    if [other.path for other in entries].count(entry.path) != 1:
+    """A method is listed once for each category, with the name that it has in C there."""
+    lines = [other for other in entries if other.path == entry.path]
+    if entry.path[:-1] == METHODS:
+        lines = [other for other in lines if header_of(other.c_name) == header_of(entry.c_name)]
+    if len(lines) != 1:
         raise Problem(f"{LIST} has {shown(entry.path)} twice")
     if entry.c_name != "-" and [other.c_name for other in entries].count(entry.c_name) != 1:
         raise Problem(f"{LIST} has {entry.c_name} twice")
@@ -408,13 +456,14 @@ def listed_once(entries, entry):
 
 def exported(tree, listed, crate, name):
     """An exported name is the interface's or the tests', is listed, and means one function in all files, but the one of
-    the library that the interface calls."""
+    the library that the interface calls where no category decides."""
     if crate not in (EXPORTS, TESTED):
         raise Problem(f"crate {crate} exports {name} to C: only {EXPORTS} exports")
     if crate == EXPORTS and name not in listed:
         raise Problem(f"{LIST} lacks the exported {name}")
     found = [module.path[0] for module in tree.modules() for each in module.names if each == name]
-    if sorted(found) != ([LIBRARY, crate] if crate == EXPORTS else [crate]):
+    both = crate == EXPORTS and not any(sizes(module) and name in module.names for module in tree.modules(crate))
+    if sorted(found) != ([LIBRARY, crate] if both else [crate]):
         where = ", ".join(found)
         raise Problem(f"the exported {name} is declared {len(found)} times in the files of all crates: in {where}")
 

@@ -12,7 +12,7 @@ EXPORTED = "unsafe ( no_mangle )"  # the attribute of a function that C sees
 # The attributes of each kind of item. None of them makes a function or changes its name but EXPORTED.
 DERIVED = r"derive \( \w+(?: , \w+)* \)"
 ATTRIBUTES = {
-    "fn": r"cycle \( \w+ \)|" + re.escape(EXPORTED),
+    "fn": r"cycle \( \w+ \)|tactic \( auto [\w ,:()]*\)|" + re.escape(EXPORTED),
     "extern": re.escape(EXPORTED),
     "struct": r"repr \( C \)|" + DERIVED,
     "enum": r"repr \( C \)|" + DERIVED,
@@ -47,7 +47,7 @@ class Problem(Exception):
 
 
 class Function(NamedTuple):
-    path: tuple  # crate, modules, name; of an inline module or an `impl` too
+    path: tuple  # crate, modules, name; of an inline module or the type of an `impl` too
     public: bool
     attributes: tuple
     extern: bool
@@ -100,6 +100,7 @@ class Reader:
     def __init__(self, module, text):
         self.module, self.text, self.at, self.taken = module, text, 0, []
         self.ahead = (-1, "")  # where the next token stands, and it
+        self.inside = 0  # in how many blocks of types
 
     def fail(self, what):
         line = self.text.count("\n", 0, self.at) + 1
@@ -181,10 +182,11 @@ class Reader:
         self.module.names = [name for word, name in zip(self.taken, self.taken[1:]) if word == "fn"]
 
     def tactic(self):
-        """`#![tactic(auto)]` at the head of a file: by it the check tries its tactics."""
+        """`#![tactic(auto)]` at the head of a file, with options or none: by it the check tries its tactics."""
         self.take("#")
         self.take("!")
-        if self.group("[")[1:-1] != ["tactic", "(", "auto", ")"]:
+        words = self.group("[")[1:-1]
+        if words[:3] != ["tactic", "(", "auto"] or words[-1] != ")":
             self.fail("unknown attribute of a file")
 
     def items(self, path):
@@ -236,7 +238,26 @@ class Reader:
         self.take("}")
 
     def item_impl(self, path, _):
-        self.block(path + (" ".join(self.until("{")),))
+        """The functions of a type's block stand under the type's name, those of a trait's under the whole head."""
+        head = self.until("{")
+        self.inside += 1
+        self.block(path + (self.type_of(head) or " ".join(head),))
+        self.inside -= 1
+
+    def type_of(self, head):
+        """The type that a block is of, without its parameters; of a block for a trait, nothing."""
+        if head[:1] == ["<"]:
+            head = head[self.closing(head) + 1 :]
+        return None if "for" in head else head[0]
+
+    def closing(self, tokens):
+        """Where the bracket that the first token opens is closed."""
+        depth = 0
+        for at, token in enumerate(tokens):
+            depth += (token == "<") - (token == ">")
+            if depth == 0:
+                return at
+        self.fail("a `<` does not end")
 
     def item_use(self, *_):
         self.tree(())
@@ -267,6 +288,8 @@ class Reader:
         self.take("}")
 
     def item_ghost(self, *_):
+        if self.inside and self.peek() != "use":
+            return self.member()
         self.take("use")
         tree = self.ghost(";")[:-1]
         if tree[1:3] == [".", "{"] and tree[-1] == "}":
@@ -276,6 +299,13 @@ class Reader:
         else:
             path, local = self.renamed(tree)
             self.module.imports.append(Import(path, "", local))
+
+    def member(self):
+        """A ghost member of a type's block: a name, and its term in braces."""
+        self.name()
+        self.take("=")
+        self.ghost("}")
+        self.take(";")
 
     def renamed(self, leaf):
         """A path of a `ghost use`, and the name that it brings: its last, or that after `as`."""
@@ -294,9 +324,28 @@ class Reader:
     def item_struct(self, *_):
         self.module.items.append(self.name())
         self.until("{", ";")
-        self.take(";") if self.peek() == ";" else self.group("{")
+        self.take(";") if self.peek() == ";" else self.fields()
 
-    item_enum = item_struct
+    def fields(self):
+        """The fields of a struct; those of proofs alone have a fact in braces, which is antt's."""
+        self.take("{")
+        while self.peek() != "}":
+            self.visibility()
+            if self.peek() == "ghost":
+                self.take()
+                self.name()
+                self.take(":")
+                self.ghost("}")
+            else:
+                self.until(",", "}")
+            if self.peek() != "}":
+                self.take(",")
+        self.take("}")
+
+    def item_enum(self, *_):
+        self.module.items.append(self.name())
+        self.until("{")
+        self.group("{")
 
     def function(self, path, public, attributes):
         extern = self.peek() == "extern"

@@ -72,6 +72,10 @@ class Edits(unittest.TestCase):
         self.assertIn("laws::more::d is proved", self.judge_each(a, "fn laws::more::d: proved\n", b))
         self.assertIn("no function of laws::more", self.judge_each(self.NOTE, "fn laws::moreover::a: no proof\n"))
 
+    def test_a_type_that_promises_too_much_is_refused(self):
+        note = "note: src/more.rt:3:1: `search` found no proof (`invariant_of-result`); `search` gave up\n"
+        self.assertIsNone(self.judge_each(f"{note}fn laws::more::a: no proof: expected x\n"))
+
     def test_one_function_is_refused(self):
         a, b = f"{self.NOTE}fn laws::more::a: no proof: expected x\n", "fn laws::more::ab: proved\n"
         self.assertIsNone(self.judge_each(a, b, module="laws::more::a"))
@@ -352,47 +356,75 @@ pub fn three(state: &'a mut [u64], last_word: u8)
 {{
 }}
 """
-DEEP = f"""use parameters::Params;
-ghost use Rattle.deep.specs.Entries.{{Two}};
-
-pub fn two(p: Params, block: &[u8], room: &mut [u8], out: &mut [u8]) -> u8
-    requires needed {{ Room p room.old }}
-    {TWO}
-{{
-    fill(p, block, room, out)
-}}
-
-{HEAD}
-    requires {{ Odd count }}
-    ensures {{ Two count line.now out.old result out.new }}
-{{
-    0
-}}
-"""
 LIBRARY = f"""pub mod category1;
+pub mod entries;
 
 ghost use Rattle.inner.specs.Promises.{{One, classes}};
 
 {HEAD.replace("one", "gridprofile_one")}
     {ONE}
 {{
-    inner::one(line, out, count)
+    number_in(inner::one(line, out, count))
 }}
 """
 EXPORT = '#[unsafe(no_mangle)]\npub extern "C" fn'
-INTERFACE = LIBRARY.replace("pub fn", EXPORT).replace("inner::one", "gridprofile::gridprofile_one")
-CATEGORY = f"""use parameters::CATEGORY1 as P;
-ghost use Rattle.parameters.specs.Categories.{{category1 as p}};
-ghost use Rattle.deep.specs.Entries.{{Two}};
+INTERFACE = f"""pub mod category1;
+
+ghost use Rattle.inner.specs.Promises.{{One, classes}};
+
+{HEAD.replace("one", "gridprofile_one").replace("pub fn", EXPORT)}
+    {ONE}
+{{
+    gridprofile::gridprofile_one(line, out, count)
+}}
+"""
+TWO_OF_SELF = TWO.replace("Two p", "Two self.now.category.sizes")
+METHODS = f"""ghost use Rattle.std.specs.Prelude.{{◌≡◌}};
+
+use parameters::Category;
+
+#[derive(Clone, Copy)]
+pub struct Entries<const ROOM: usize> {{
+    pub category: Category,
+    pub ghost room: {{ ROOM ≡ category.sizes.n * 2 }},
+}}
+
+impl<const ROOM: usize> Entries<ROOM> {{
+    ghost use Rattle.deep.specs.Entries.{{Two}};
+
+    pub fn two(&self, block: &[u8], out: &mut [u8]) -> u8
+        {TWO_OF_SELF}
+    {{
+        let mut scratch = [0u8; ROOM];
+        number_in(deep::two(self.category, block, &mut scratch, out))
+    }}
+
+    pub fn free(&self, block: &[u8], out: &mut [u8]) -> Result<(), Refusal>
+        {TWO_OF_SELF.replace("result", "(number_in result)")}
+    {{
+        deep::two(self.category, block, &mut [0u8; ROOM], out)
+    }}
+}}
+
+impl Model for Category {{
+    ghost Value = {{ ℕ }};
+}}
+"""
+CATEGORY = """use parameters::CATEGORY1 as P;
+ghost use Rattle.parameters.specs.Categories.{category1 as p};
+ghost use Rattle.std.specs.Prelude.{◌≡◌};
+
+use crate::entries::Entries;
 
 const ROOM: usize = P.n * 2;
 
-pub fn gridprofile_two(block: &[u8], out: &mut [u8]) -> u8
-    {TWO}
-{{
-    let mut scratch = [0u8; (ROOM + 8) * 2];
-    deep::entry::two(P, block, &mut scratch, out)
-}}
+pub fn entries() -> Entries<ROOM>
+    ensures { result.category.sizes ≡ p }
+{
+    Entries {
+        category: Category { sizes: P },
+    }
+}
 """
 C_CATEGORY = f"""ghost use Rattle.parameters.specs.Categories.{{category1 as p}};
 ghost use Rattle.deep.specs.Entries.{{Two}};
@@ -400,7 +432,7 @@ ghost use Rattle.deep.specs.Entries.{{Two}};
 {EXPORT} gridprofile_two(block: &[u8], out: &mut [u8]) -> u8
     {TWO}
 {{
-    gridprofile::category1::gridprofile_two(block, out)
+    gridprofile::category1::entries().two(block, out)
 }}
 """
 PROMISES = """-- What crate inner promises ("promises").
@@ -427,8 +459,9 @@ uint8_t gridprofile_two(const uint8_t *block, size_t block_len, uint8_t *out,
                         size_t out_len);
 """
 LIST = """# a comment
-inner::one  gridprofile_one  inner.Promises.One
-gridprofile::category1::gridprofile_two  gridprofile_two  deep.Entries.Two
+gridprofile::gridprofile_one  gridprofile_one  inner.Promises.One
+gridprofile::entries::Entries::two  gridprofile_two  deep.Entries.Two
+inner::one  -  inner.Promises.One
 inner::more::three  -  inner.Promises.Three
 """
 CATEGORIES = "abbrev pub category1 : Params\nabbrev pub category3 : Params\n"
@@ -444,14 +477,13 @@ REPOSITORY = {
     "crates/inner/specs/Promises.antt": PROMISES,
     "crates/inner/specs/Others.antt": PROMISES,
     "crates/twin/specs/Promises.antt": PROMISES,
-    "crates/deep/src/lib.rt": "pub mod entry;\n",
-    "crates/deep/src/entry.rt": DEEP,
+    "crates/gridprofile/src/entries.rt": METHODS,
     "crates/deep/specs/Entries.antt": ENTRIES,
     "crates/parameters/src/lib.rt": "pub const CATEGORY1: Params = Params { n: 4 };\n",
     "crates/parameters/specs/Categories.antt": CATEGORIES,
 }
 INNER_FILE, MORE_FILE = "crates/inner/src/lib.rt", "crates/inner/src/more.rt"
-DEEP_FILE = "crates/deep/src/entry.rt"
+METHODS_FILE = "crates/gridprofile/src/entries.rt"
 INTERFACE_FILE, C_CATEGORY_FILE = "crates/gridprofile_c/src/lib.rt", "crates/gridprofile_c/src/category1.rt"
 LIBRARY_FILE, CATEGORY_FILE = "crates/gridprofile/src/lib.rt", "crates/gridprofile/src/category1.rt"
 PROMISES_FILE, ENTRIES_FILE = "crates/inner/specs/Promises.antt", "crates/deep/specs/Entries.antt"
@@ -666,8 +698,8 @@ class Definitions(Repository):
 
 
 class CFunctions(Repository):
-    """A C function promises what the library's function of its name promises, and that one what the one function
-    promises that it calls."""
+    """A C function promises what the entry promises: the library's function of its name, or at a category the method of
+    the entries at its sizes."""
 
     def test_its_form(self):
         for old, new in (("#[unsafe(no_mangle)]\n", ""), ('extern "C" ', "")):
@@ -676,39 +708,52 @@ class CFunctions(Repository):
         said = "crate gridprofile_c does not export gridprofile_one"
         self.refuses(said, INTERFACE_FILE, "fn gridprofile_one", "fn gridprofile_none")
 
-    def test_it_calls_the_librarys_function_of_its_name(self):
-        own, said = "gridprofile::gridprofile_one(", "and not the function of its own name in gridprofile"
+    def test_it_calls_the_listed_function_of_its_name(self):
+        own, said = "gridprofile::gridprofile_one(", "and not the listed gridprofile::gridprofile_one of its own name"
         others = ("inner::one", "gridprofile::category1::gridprofile_one", "gridprofile::gridprofile_two")
         for other in (*others, "gridprofile::one"):
             self.refuses(said, INTERFACE_FILE, own, f"{other}(")
-        three = C_CATEGORY.replace("gridprofile::category1", "gridprofile::category3")
-        self.assertTrue(any(said in each for each in self.problems(**{C_CATEGORY_FILE: three})))
+        method, said = "entries().two(", "and not the listed gridprofile::entries::Entries::two of its own name"
+        self.refuses(said, C_CATEGORY_FILE, method, "entries().free(")
+        self.refuses(said, C_CATEGORY_FILE, "gridprofile::category1::entries().two(", "gridprofile::gridprofile_two(")
+        listed = {entries.LIST: LIST.replace("Entries::two", "Entries::free")}
+        self.refuses(said.replace("two", "free"), C_CATEGORY_FILE, **listed)
+        self.refuses("of its own name", C_CATEGORY_FILE, method, "entries().free(", **listed)
+        self.refuses("the entries of another category", C_CATEGORY_FILE, "category1::entries", "category3::entries")
 
     def test_that_one_is_plain(self):
         self.refuses("is not a plain function", LIBRARY_FILE, "pub fn", 'pub extern "C" fn')
         self.refuses("gridprofile::gridprofile_one is not public", LIBRARY_FILE, "pub fn", "fn")
         self.refuses("gridprofile_one is declared nowhere", LIBRARY_FILE, "fn gridprofile_one", "fn gridprofile_none")
+        self.refuses("Entries::two is not a plain function", METHODS_FILE, "pub fn two", 'pub extern "C" fn two')
+        self.refuses("Entries::two is not public", METHODS_FILE, "pub fn two", "fn two")
+        self.refuses("inline module or a block", METHODS_FILE, "impl<const ROOM: usize> Entries", "impl Others")
+        self.refuses("inline module or a block", METHODS_FILE, "> Entries<ROOM> {", "> Two for Entries<ROOM> {")
 
-    def test_the_function_called_promises_the_same_name(self):
-        self.refuses("promises deep.Entries.Two, and deep::entry::two deep.Entries.Too", DEEP_FILE, "Two", "Too")
-        self.refuses("and deep::entry::two twin.Entries.Two", DEEP_FILE, "Rattle.deep", "Rattle.twin")
-        self.refuses("entry.rt imports Free as Two", DEEP_FILE, "{Two}", "{Free as Two}")
-        self.refuses("deep::entry::two has 2 ensures", DEEP_FILE, TWO, TWO + TWO)
-        self.refuses("has a label", DEEP_FILE, TWO, TWO.replace("ensures", "ensures named"))
+    def test_a_method_promises_the_same(self):
+        def promises(said, new):
+            self.refuses(said, METHODS_FILE, TWO_OF_SELF, new)
+
+        self.refuses("promises deep.Entries.Too", METHODS_FILE, "Two", "Too")
+        promises("leaves out self.now", TWO_OF_SELF.replace("self.now.category.sizes ", ""))
+        promises("not one name applied", TWO_OF_SELF.replace("category.sizes", "category.other"))
+        promises("has 2 ensures", TWO_OF_SELF + TWO_OF_SELF)
+        promises("has a label", TWO_OF_SELF.replace("ensures", "ensures named"))
+        promises("has a requires", "requires { Odd count }\n        " + TWO_OF_SELF)
+        self.refuses("entries.rt imports Free as Two", METHODS_FILE, "{Two}", "{Free as Two}")
+        self.refuses("promises twin.Entries.Two", METHODS_FILE, "Rattle.deep", "Rattle.twin")
 
     def test_of_the_same_arguments(self):
         old, new = "line.now out.old", "out.old line.now"
-        for file, said in ((INTERFACE_FILE, "speaks of"), (LIBRARY_FILE, "where gridprofile::gridprofile_one has")):
-            self.refuses(f"{said} parameter out old", file, old, new)
-            self.refuses(f"{said} number 3", file, "classes 7", "classes 3")
-            self.refuses(f"{said} number 7", file, "classes 7", "7 classes")
-            self.refuses(f"{said} number 8", file, "out.new", "out.new 8")
-        self.refuses("speaks of parameter line now where inner::one has", INNER_FILE, old, new)
+        said = "where gridprofile::gridprofile_one has"
+        self.refuses("speaks of parameter out old", INTERFACE_FILE, old, new)
+        self.refuses("speaks of number 3", INTERFACE_FILE, "classes 7", "classes 3")
+        self.refuses("speaks of number 7", INTERFACE_FILE, "classes 7", "7 classes")
+        self.refuses("speaks of number 8", INTERFACE_FILE, "out.new", "out.new 8")
+        self.refuses(f"speaks of parameter line now {said}", LIBRARY_FILE, old, new)
         for one, three in (("classes 7", "classes 3"), ("out.new", "out.new 3")):
-            c, said = {INTERFACE_FILE: INTERFACE.replace(one, three)}, "speaks of number 3 where inner::one has"
-            self.refuses(f"gridprofile::gridprofile_one {said}", LIBRARY_FILE, one, three, **c)
+            self.refuses(f"{said} number 3", LIBRARY_FILE, one, three)
         self.refuses("other parameters", INTERFACE_FILE, "(line, out, count)", "(line, out)")
-        self.refuses("other parameters", LIBRARY_FILE, "(line, out, count)", "(line, out)")
 
     def test_of_the_same_definitions(self):
         imports = "{One};\nghost use Rattle.inner.specs.Others.{classes}"
@@ -716,17 +761,12 @@ class CFunctions(Repository):
             self.refuses(f"{said} definition inner.Others.classes", file, "{One, classes}", imports)
 
     def test_of_the_arguments_of_the_call(self):
-        other = "where deep::entry::two has parameter out now"
-        self.refuses(other, CATEGORY_FILE, "(P, block, &mut scratch, out)", "(P, out, &mut scratch, block)")
-        other = "where gridprofile::category1::gridprofile_two has parameter out now"
+        other = "where gridprofile::entries::Entries::two has parameter out now"
         self.refuses(other, C_CATEGORY_FILE, "(block, out)", "(out, block)")
-
-    def test_the_librarys_calls_the_listed_function(self):
-        self.refuses("calls deep::entry::two, and not the listed", LIBRARY_FILE, "inner::one(", "deep::entry::two(")
-        self.refuses("calls inner::look, and not the listed", LIBRARY_FILE, "inner::one(", "inner::look(")
+        self.refuses("other parameters", C_CATEGORY_FILE, "(block, out)", "(block)")
 
     def test_it_makes_one_call(self):
-        call = "inner::one(line, out, count)"
+        call = "gridprofile::gridprofile_one(line, out, count)"
         for body in (
             "0",
             "",
@@ -740,54 +780,57 @@ class CFunctions(Repository):
             f"!{call}",
             f"out[0] = 1;\n    {call}",
             f"let count = 1;\n    {call}",
-            "inner::one(line, out, count + 1)",
-            "inner::one(line, out, inner::number(count))",
-            "inner::one(&line[1..], out, count)",
+            "gridprofile::gridprofile_one(line, out, count + 1)",
+            "gridprofile::gridprofile_one(line, out, inner::number(count))",
+            "gridprofile::gridprofile_one(&line[1..], out, count)",
         ):
-            self.refuses("call", LIBRARY_FILE, call, body)
-            own = "gridprofile::gridprofile_one(line, out, count)"
-            self.refuses("call", INTERFACE_FILE, own, body.replace(call, own))
+            self.refuses("call", INTERFACE_FILE, call, body)
+        call = "gridprofile::category1::entries().two(block, out)"
+        for body in ("0", f"{call};\n    {call}", f"{call} + 0", f"let block = out;\n    {call}", call.replace("()", "(P)"),
+                     call.replace("out", "&mut out[1..]"), call.replace("gridprofile::", "crate::")):
+            self.refuses("call", C_CATEGORY_FILE, call, body)
 
     def test_it_lends_its_own_parameters(self):
-        lent = "lends `& mut scratch` for out, of which the contract speaks"
-        self.refuses(lent, CATEGORY_FILE, "&mut scratch, out)", "out, &mut scratch)")
-        self.refuses("lends `scratch` for block", CATEGORY_FILE, "(P, block", "(P, scratch")
-        self.refuses("lends `Q` for p", CATEGORY_FILE, "(P, block", "(Q, block")
-        self.refuses("hides block", CATEGORY_FILE, "let mut scratch", "let mut block = [0u8; 3];\n    let mut scratch")
-        self.refuses("hides P", CATEGORY_FILE, "let mut scratch", "let mut P = [0u8; 3];\n    let mut scratch")
+        lent, scratch = "lends `& mut scratch` for out, of which the contract speaks", "let mut scratch = [0u8; 3];\n    "
+        call = "gridprofile::gridprofile_one(line, "
+        self.refuses(lent, INTERFACE_FILE, f"{call}out", f"{scratch}{call}&mut scratch")
+        self.refuses("lends `scratch` for line", INTERFACE_FILE, call, scratch + call.replace("line", "scratch"))
+        self.refuses("hides line", INTERFACE_FILE, call, scratch.replace("scratch", "line") + call)
 
     def test_a_crates_name_is_the_crate(self):
-        blocks = ("mod inner { pub fn one() {} }", "struct inner { }\nimpl inner { pub fn one() {} }")
-        uses = ("use other as inner;", "use other::inner;")
-        trees = ("use other::{more, part::{inner}};", "use other::{more as inner, part};")
-        for item in (*blocks, "mod inner;", *uses, *trees, "fn inner() {}"):
-            self.refuses("crate's name inner another", LIBRARY_FILE, "pub mod", f"{item}\npub mod")
-            item = item.replace("inner", "gridprofile")
+        name = "gridprofile"
+        blocks = (f"mod {name} {{ pub fn one() {{}} }}", f"struct {name} {{ }}\nimpl {name} {{ pub fn one() {{}} }}")
+        uses = (f"use other as {name};", f"use other::{name};")
+        trees = (f"use other::{{more, part::{{{name}}}}};", f"use other::{{more as {name}, part}};")
+        for item in (*blocks, f"mod {name};", *uses, *trees, f"fn {name}() {{}}"):
             self.refuses("crate's name gridprofile another", INTERFACE_FILE, "pub mod", f"{item}\npub mod")
         self.refuses("crate's name parameters another", CATEGORY_FILE, "const ROOM", "mod parameters {}\nconst ROOM")
-        self.refuses("there is no file for crate", CATEGORY_FILE, "deep::entry", "crate::entry")
 
     def test_the_sizes_are_the_categorys(self):
         self.refuses("is not parameters::CATEGORY1", CATEGORY_FILE, "CATEGORY1 as P", "CATEGORY3 as P")
         self.refuses("is not parameters::CATEGORY1", CATEGORY_FILE, "use parameters::CATEGORY1 as P;\n", "")
         self.refuses("is not parameters.Categories.category1", CATEGORY_FILE, "category1 as p", "category3 as p")
         self.refuses("or other sizes", CATEGORY_FILE, "category1 as p", "category1 as p, category3")
-        self.refuses("lends `P` for count", LIBRARY_FILE, "out, count)", "out, P)")
+        self.refuses("lends `P` for count", INTERFACE_FILE, "out, count)", "out, P)")
+        said = "does not promise entries at the sizes p"
+        own = "ensures { result.category.sizes ≡ p }"
+        for new in ("", f"requires {{ Odd }}\n    {own}", own.replace("≡ p", "≡ q"), own.replace("ensures", "ensures at")):
+            self.refuses(said, CATEGORY_FILE, own, new)
+        self.refuses(said, CATEGORY_FILE, "entries()", "entries(n: usize)")
+        self.refuses("entries is not public", CATEGORY_FILE, "pub fn", "fn")
         self.refuses("is not parameters.Categories.category1", C_CATEGORY_FILE, "category1 as p", "category3 as p")
         self.refuses("or other sizes", C_CATEGORY_FILE, "category1 as p", "category1 as p, category3")
         for item in ("use parameters::CATEGORY3 as P;", "const P: usize = 3;"):
             deep = "ghost use Rattle.deep"
             self.refuses("is not parameters::CATEGORY1", C_CATEGORY_FILE, deep, f"{item}\n{deep}")
 
-    def test_a_categorys_module_for_callers_in_rattle(self):
-        listed = LIST.replace("gridprofile_two\n", "").replace("gridprofile_two  gridprofile_two", "free  -")
-        free = CATEGORY.replace("gridprofile_two", "free")
-        header = HEADER[: HEADER.index("uint8_t gridprofile_two")]
-        paths = {entries.LIST: listed, entries.HEADER: header, CATEGORY_FILE: free}
-        paths[C_CATEGORY_FILE] = C_CATEGORY[: C_CATEGORY.index("#[")]
-        self.assertEqual(self.problems(**paths), [])
-        paths[CATEGORY_FILE] = free.replace("category1 as p", "category3").replace("Two p", "Two category3")
-        self.assertTrue(any("is not parameters.Categories.category1" in each for each in self.problems(**paths)))
+    def test_a_method_for_callers_in_rattle(self):
+        free = {entries.LIST: LIST + "gridprofile::entries::Entries::free  -  deep.Entries.Two\n"}
+        self.assertEqual(self.problems(**free), [])
+        listed = {entries.LIST: LIST + "gridprofile::entries::Entries::free  -  inner.Promises.One\n"}
+        self.refuses("promises deep.Entries.Two", METHODS_FILE, **listed)
+        for new in ("number_of result", "number_in result result", "result"):
+            self.refuses("an argument, `(`", METHODS_FILE, "(number_in result)", f"({new})", **free)
 
     def test_a_name_is_that_of_the_category(self):
         named = "gridprofile_category3_two"
@@ -796,7 +839,6 @@ class CFunctions(Repository):
             entries.LIST: LIST.replace("gridprofile_two", named),
             entries.HEADER: HEADER[:at],
             "include/gridprofile_category3.h": HEADER[at:].replace("gridprofile_two", named),
-            CATEGORY_FILE: CATEGORY.replace("gridprofile_two", named),
             C_CATEGORY_FILE: C_CATEGORY.replace("gridprofile_two", named),
         }
         said = f"gridprofile_c::category1::{named} has the name of another category"
@@ -806,7 +848,7 @@ class CFunctions(Repository):
         self.refuses(f"{named} has the name", INTERFACE_FILE, "gridprofile_one", named, **listed)
 
     def test_the_file_of_a_category_uses_no_other(self):
-        sizes_of_1 = CATEGORY[: CATEGORY.index("ghost use Rattle.deep")]
+        sizes_of_1 = CATEGORY[: CATEGORY.index("ghost use Rattle.std")]
         path = "crates/duty/src/category1.rt"
         for use in ("gridprofile::category1::gridprofile_two as two", "deep::categories", "parameters::CATEGORY1"):
             self.assertEqual(self.problems(**{path: f"{sizes_of_1}use {use};\n"}), [])
@@ -820,7 +862,10 @@ class Lists(Repository):
     """List, exports and headers."""
 
     def test_the_list_has_a_line_once(self):
-        self.refuses("has inner::one twice", entries.LIST, "# a comment", LIST.split("\n")[1])
+        self.refuses("has gridprofile::gridprofile_one twice", entries.LIST, "# a comment", LIST.split("\n")[1])
+        two = LIST.split("\n")[2]
+        self.refuses("has gridprofile::entries::Entries::two twice", entries.LIST, "# a comment", two)
+        self.refuses("Entries::two twice", entries.LIST, "# a comment", two.replace(" gridprofile_two", " gridprofile_six"))
         self.refuses("has inner::one twice", entries.LIST, "# a comment", "inner::one  -  inner.Promises.One")
         self.refuses("has gridprofile_one twice", entries.LIST, "# a comment", "inner::two gridprofile_one inner.A.B")
 

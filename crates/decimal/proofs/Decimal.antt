@@ -3,12 +3,12 @@ use mathlib.Core.Path.{◌≡◌, refl, ◌∙◌, sym, ap, ap₂}
 use mathlib.Core.Bool.{Bool, true, false, ◌&&◌}
 use mathlib.Core.Logic.{◌⊎◌, inl, inr, ⊎_elim}
 use mathlib.Core.List.{List, [], ◌∷◌, ◌++◌, append_assoc, append-nil}
-use Prim.Native.Nat.{ℕ, zero, suc, ◌+◌, ◌-◌, ◌*◌, ◌/◌, ◌%◌, min, ◌≤◌, ◌<◌}
+use Prim.Native.Nat.{ℕ, zero, suc, ◌+◌, ◌-◌, ◌*◌, ◌/◌, ◌%◌, ◌^◌, min, max, ◌≤◌, ◌<◌}
 use native.Mathlib.Numerals.{add-one}
 use native.Mathlib.Decide.{dec_lt}
 use native.Mathlib.Omega.{arith}
 use lib.Dec.{leb}
-use lib.ListN.{length, drop, get_or, set, length-set, length-append, get_or-append, drop_of_length-le}
+use lib.ListN.{length, drop, get_or, set, length-append, get_or-append, drop_of_length-le}
 use lib.Seq.{drop-append_seam, drop-cons, drop-drop, drop-length, sets}
 use borrow.Author.Tests.{lt-ltb, le-ltb, le-leb, leb-true}
 use Rattle.decimal.proofs.Stores.{sets_last_first}
@@ -70,10 +70,6 @@ pub one_digit : (n : ℕ) → 1 ≤ length (decimal n)
 one_digit =
     by_tenths (λ (n : ℕ). 1 ≤ length (decimal n)) (λ n h. omega (arith, length_small n h)) (λ n h ih. omega (arith, length_more n h))
 
-pub few_digits : (n : ℕ) → length (decimal n) ≤ n + 1
-few_digits =
-    by_tenths (λ (n : ℕ). length (decimal n) ≤ n + 1) (λ n h. omega (arith, length_small n h)) (λ n h ih. omega (arith, length_more n h))
-
 -- a larger number has no fewer digits
 pub length_mono : (n m : ℕ) → m ≤ n → length (decimal m) ≤ length (decimal n)
 length_mono =
@@ -83,6 +79,19 @@ length_mono =
     ⊎_elim (λ s. omega (arith, length_small m s, one_digit n))
     (λ l. omega (arith, length_more n h, length_more m l, ih (m / 10) (omega arith)))
     (small_or_more m))
+
+-- a number between two neighbouring powers of ten
+power_digits : (k n : ℕ) → 10 ^ k ≤ n → n < 10 * 10 ^ k → length (decimal n) ≡ k + 1
+power_digits zero n low high = length_small n high
+power_digits (suc k) n low high =
+    let more : 10 ≤ n = omega arith in
+    omega (arith, length_more n more, power_digits k (n / 10) (omega arith) (omega arith))
+
+-- 0 has as many digits as 1
+pub power_width : (k n : ℕ) → 10 ^ k ≤ max n 1 → max n 1 < 10 * 10 ^ k → k + 1 ≡ length (decimal n)
+power_width k zero low high =
+    omega (arith, power_digits k 1 low high, length_small 0 (omega arith), length_small 1 (omega arith))
+power_width k (suc n) low high = sym (power_digits k (suc n) (omega arith) (omega arith))
 
 -- a number that a u32 holds has at most ten digits
 largest_digits : length (decimal largest) ≡ 10
@@ -182,11 +191,10 @@ module _ (n b : ℕ) (rest : List ℕ) (stop : is_digit b ≡ false) where
 pub record ReadSoFar (s : List ℕ) (at value end : ℕ) : Type 0 where
   pub left : value_from largest value (leading_digits (drop end s)) ≡ leading_number (drop at s)
   pub after : drop (length (leading_digits (drop end s))) (drop end s) ≡ after_number (drop at s)
-  pub within : at ≤ length s → end ≤ length s
 
 pub so_far_none : (s : List ℕ) (at : ℕ) → ReadSoFar s at 0 at
 unfolding leading_number after_number
-so_far_none s at = record { left = refl; after = refl; within = λ h. h }
+so_far_none s at = record { left = refl; after = refl }
 
 module _ {s : List ℕ} {at value end : ℕ} (so_far : ReadSoFar s at value end) where
   pub so_far_more : end < length s → is_digit (get_or s end 0) ≡ true
@@ -200,24 +208,27 @@ module _ {s : List ℕ} {at value end : ℕ} (so_far : ReadSoFar s at value end)
       record {
         left = sym (ap (value_from largest value) digits) ∙ so_far.left;
         after = sym (ap₂ (λ (l m : List ℕ). drop (length l) m) digits here) ∙ so_far.after;
-        within = λ k. omega arith;
       }
 
-  ended : leading_digits (drop end s) ≡ [] → NumberAt s at (record { value = value; end = end })
+  ended : leading_digits (drop end s) ≡ [] → (value ≡ leading_number (drop at s)) × (drop end s ≡ after_number (drop at s))
   unfolding value_from
-  ended e =
-      record {
-        value = sym (ap (value_from largest value) e) ∙ so_far.left;
-        after = sym (ap (λ (l : List ℕ). drop (length l) (drop end s)) e) ∙ so_far.after;
-        within = so_far.within;
-      }
+  ended e = (
+    sym (ap (value_from largest value) e) ∙ so_far.left,
+    sym (ap (λ (l : List ℕ). drop (length l) (drop end s)) e) ∙ so_far.after,
+  )
 
   pub so_far_stop : end < length s → is_digit (get_or s end 0) ≡ false → NumberAt s at (record { value = value; end = end })
-  so_far_stop h d = ended (ap leading_digits (drop-cons s end 0 h) ∙ leading_stop (get_or s end 0) (drop (suc end) s) d)
+  so_far_stop h d =
+      let found = ended (ap leading_digits (drop-cons s end 0 h) ∙ leading_stop (get_or s end 0) (drop (suc end) s) d) in
+      record { value = found.0; after = found.1; within = λ k. omega arith }
 
-  pub so_far_end : length s ≤ end → NumberAt s at (record { value = value; end = end })
+  -- the slice ends before another byte
+  pub so_far_end : length s ≤ end → NumberAt s at (record { value = value; end = length s })
   unfolding leading_digits
-  so_far_end h = ended (ap leading_digits (drop_of_length-le s h))
+  so_far_end h =
+      let none : drop end s ≡ [] = drop_of_length-le s h in
+      let found = ended (ap leading_digits none) in
+      record { value = found.0; after = drop-length s ∙ sym none ∙ found.1; within = λ k. omega arith }
 
 -- ---- reading behind a place
 
@@ -247,33 +258,54 @@ module _ (bytes : List ℕ) (at skip : ℕ) where
 
 -- ---- a writer that goes from the last digit to the first: what it has stored and the digits that are left are the number's
 
+-- the last digits of a number, so many of them, with zeros before the first
+pub digits : ℕ → ℕ → List ℕ
+digits zero n = []
+digits (suc many) n = digits many (n / 10) ++ digit (n % 10) ∷ []
+
+length_digits : (many n : ℕ) → length (digits many n) ≡ many
+unfolding digits
+length_digits zero n = refl
+length_digits (suc many) n =
+    length-append (digits many (n / 10)) (digit (n % 10) ∷ []) ∙ omega (arith, length_digits many (n / 10))
+
+-- as many as the number has are the number's
+digits_all : (many n : ℕ) → length (decimal n) ≡ many → digits many n ≡ decimal n
+unfolding digits
+digits_all zero n e = absurd (omega (arith, one_digit n))
+digits_all (suc many) n e =
+    ⊎_elim
+    (λ h.
+    let none : many ≡ 0 = omega (arith, length_small n h) in
+    let last : n % 10 ≡ n = omega arith in
+    rw (none, last) (sym (decimal_small n h)))
+    (λ h.
+    ap (λ (l : List ℕ). l ++ digit (n % 10) ∷ []) (digits_all many (n / 10) (omega (arith, length_more n h)))
+    ∙ sym (decimal_more n h))
+    (small_or_more n)
+
 pub record DigitsLeft (out₀ : List ℕ) (at n : ℕ) (out : List ℕ) (i rest : ℕ) : Type 0 where
-  pub place : i ≡ at + length (decimal rest)
-  pub stored : sets out at (decimal rest) ≡ sets out₀ at (decimal n)
-  pub long : length out ≡ length out₀
-  pub fewer : rest ≤ n
+  pub stored : sets out at (digits (i - at) rest) ≡ sets out₀ at (decimal n)
 
 pub left_all : (out : List ℕ) (at n i : ℕ) → i ≡ at + length (decimal n) → DigitsLeft out at n out i n
-left_all out at n i e = record { place = e; stored = refl; long = refl; fewer = omega arith }
+left_all out at n i e = record { stored = ap (sets out at) (digits_all (i - at) n (omega arith)) }
 
 module _ {out₀ out : List ℕ} {at n i rest : ℕ} (left : DigitsLeft out₀ at n out i rest) where
-  pub left_more : (b : ℕ) → b ≡ digit (rest % 10) → 10 ≤ rest → DigitsLeft out₀ at n (set out (i - 1) b) (i - 1) (rest / 10)
+  pub left_more : (b : ℕ) → b ≡ digit (rest % 10) → at < i → DigitsLeft out₀ at n (set out (i - 1) b) (i - 1) (rest / 10)
+  unfolding digits
   left_more b e h =
-      let tenth : List ℕ = decimal (rest / 10) in
-      let last : i - 1 ≡ at + length tenth = omega (arith, left.place, length_more rest h) in
+      let many : ℕ = i - 1 - at in
+      let more : i - at ≡ suc many = omega arith in
+      let last : at + length (digits many (rest / 10)) ≡ i - 1 = omega (arith, length_digits many (rest / 10)) in
+      let stored : set out (i - 1) b ≡ set out (at + length (digits many (rest / 10))) (digit (rest % 10)) = rw (e, last) in
       record {
-        place = last;
         stored =
-            rw (last, e)
-            (sym (sets_last_first out at tenth (digit (rest % 10))) ∙ ap (sets out at) (sym (decimal_more rest h)) ∙ left.stored);
-        long = length-set out (i - 1) b ∙ left.long;
-        fewer = omega (arith, left.fewer);
+            ap (λ (l : List ℕ). sets l at (digits many (rest / 10))) stored
+            ∙ sym (sets_last_first out at (digits many (rest / 10)) (digit (rest % 10)))
+            ∙ ap (λ (m : ℕ). sets out at (digits m rest)) (sym more)
+            ∙ left.stored;
       }
 
-  pub left_last : (b : ℕ) → b ≡ digit rest → rest < 10 → set out at b ≡ sets out₀ at (decimal n)
-  left_last b e h = rw e (sym (ap (sets out at) (decimal_small rest h)) ∙ left.stored)
-
-  -- the digits left lie within the buffer where all of them do
-  pub left_within : at + length (decimal n) ≤ length out₀ → (at < i) × (i ≤ length out)
-  left_within h =
-      (omega (arith, left.place, one_digit rest), omega (arith, left.place, left.long, length_mono n rest left.fewer))
+  pub left_none : i ≤ at → out ≡ sets out₀ at (decimal n)
+  unfolding digits
+  left_none h = let none : i - at ≡ 0 = omega arith in ap (λ (m : ℕ). sets out at (digits m rest)) (sym none) ∙ left.stored

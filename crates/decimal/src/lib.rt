@@ -2,7 +2,7 @@
 #![tactic(auto)]
 
 ghost use Rattle.std.specs.Prelude.{◌≡◌, ◌+◌, ◌-◌, ◌*◌, min, ◌≤◌, ◌<◌, length};
-ghost use Rattle.decimal.specs.Decimal.{decimal, largest, is_digit, NumberAt, NumberBehind, Room, Appended};
+ghost use Rattle.decimal.specs.Decimal.{decimal, largest, NumberAt, NumberBehind, Room, Appended};
 
 // A number that was read, and the place after its last digit.
 #[derive(Clone, Copy)]
@@ -16,43 +16,29 @@ fn digit_byte(d: u32) -> u8
     requires { d < 10 }
     ensures { result ≡ 48 + d }
 {
-    48 + d as u8
+    b'0' + d as u8
 }
 
 // How many digits a number has.
 pub fn width(n: u32) -> usize
     ensures { result ≡ length (decimal n) }
 {
-    let mut rest = n;
-    let mut count = 1;
-    while rest >= 10 {
-        rest /= 10;
-        count += 1;
-    }
-    count
+    n.max(1).ilog10() as usize + 1
 }
 
-// Stores the digits of `n` from place `at`, the last digit first, and returns the place after them.
+// Stores the digits of `n` from place `at`, the last digit first, and returns the place after them. A buffer that is lent
+// stays in no struct: each contract on such a struct would have to say that it still holds the same reference.
 pub fn write_decimal(n: u32, out: &mut [u8], at: usize) -> usize
     requires { Room out.old at (decimal n) }
     ensures { Appended out.old at (decimal n) out.new result }
 {
     let end = at + width(n);
-    let mut i = end;
     let mut rest = n;
-    while rest >= 10 {
-        i -= 1;
+    for i in (at..end).rev() {
         out[i] = digit_byte(rest % 10);
         rest /= 10;
     }
-    out[at] = digit_byte(rest);
     end
-}
-
-fn is_digit(b: u8) -> bool
-    ensures { result ≡ is_digit b }
-{
-    b >= 48 && b <= 57
 }
 
 // `n` followed by one more digit; a number past the largest stays at the largest, so that no length of digits wraps.
@@ -60,11 +46,7 @@ fn with_digit(n: u32, b: u8) -> u32
     requires { 48 ≤ b }
     ensures { result ≡ min largest (n * 10 + (b - 48)) }
 {
-    let longer = n as u64 * 10 + (b as u64 - 48);
-    if longer > 4294967295 {
-        return 4294967295;
-    }
-    longer as u32
+    n.saturating_mul(10).saturating_add(u32::from(b - b'0'))
 }
 
 // The number that stands at place `at`; 0 where no digit stands there.
@@ -72,16 +54,17 @@ pub fn read_decimal(s: &[u8], at: usize) -> Number
     ensures { NumberAt s.now at result }
 {
     let mut value = 0;
-    let mut end = at;
-    while end < s.len() {
+    for end in at..s.len() {
         let b = s[end];
-        if !is_digit(b) {
+        if !b.is_ascii_digit() {
             return Number { value, end };
         }
         value = with_digit(value, b);
-        end += 1;
     }
-    Number { value, end }
+    Number {
+        value,
+        end: s.len(),
+    }
 }
 
 // The number that stands `skip` bytes behind a place; where the slice ends before it, 0 at the slice's end.

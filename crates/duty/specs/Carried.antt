@@ -1,7 +1,7 @@
 -- Duty 3, and that a made package loads, as they hold of the running code at the sizes of a category.
 -- Assumes nothing.
 use Rattle.std.specs.Prelude.{◌≡◌, true, ◌||◌, ◌⊎◌, List, ℕ, T, ltb, length, replicate, take}
-use Rattle.outcome.specs.Result.{done}
+use Rattle.outcome.specs.Result.{Ok}
 use Rattle.parameters.specs.declared.Params.{Params}
 use Rattle.profile.specs.declared.Profile.{Profile}
 use Rattle.profile.specs.Rules.{valid}
@@ -67,10 +67,10 @@ module _ (p : Params) where
     -- where making answers 0, the line means a profile; and where this is of the device's own country, class and hertz,
     -- valid under the classes of the store, newer than the one stored, if any, and its triple is stored or there is room:
     -- the key was made, loading answers 0, the profile is found, and the lookup answers 0 and writes the line
-    pub loads : r.make ≡ 0 → (profile : Profile) × (read_line (table_of table) line ≡ done profile)
+    pub loads : r.make ≡ 0 → (profile : Profile) × (read_line (table_of table) line ≡ Ok profile)
         × (length country ≡ 2 → device_key (device_of country class hertz) ≡ key_of profile → length store ≡ store_size
         → T (valid (classes_of store) profile) → newer profile (find (key_of profile) (stored store)) ≡ true
         → (is_stored (key_of profile) (stored store) || ltb (length (stored store)) capacity) ≡ true
         → (r.key ≡ 0) × (r.load ≡ 0)
-        × (lookup_in (classes_of store) (device_of country class hertz) (stored store') ≡ done profile)
+        × (lookup_in (classes_of store) (device_of country class hertz) (stored store') ≡ Ok profile)
         × (r.lookup ≡ 0) × (take length_found found ≡ line))

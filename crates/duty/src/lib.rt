@@ -2,9 +2,7 @@
 // what is signed verifies and that four replies open the key (duty 3), and that a made package loads.
 #![tactic(auto)]
 
-pub mod category1;
-pub mod category3;
-pub mod category5;
+pub mod theorems;
 
 // What making the key, signing and verifying answered.
 #[derive(Drop)]

@@ -1,20 +1,25 @@
 -- Laws of closed lines, and of a line cut into fields at its commas. Assumes nothing.
 use mathlib.Core.Path.{◌≡◌, refl, ◌∙◌, sym, ap}
-use mathlib.Core.Bool.{Bool, true, false}
-use mathlib.Core.List.{List, [], ◌∷◌, ◌++◌, append-nil}
-use Prim.Native.Nat.{ℕ, suc, ◌+◌, ◌-◌, ◌≤◌, ◌<◌}
-use native.Mathlib.Numerals.{add-one}
+use mathlib.Core.Bool.{Bool, true, false, cond, not}
+use mathlib.Core.List.{List, [], ◌∷◌}
+use Prim.Native.Nat.{ℕ, suc, ◌+◌, ◌≤◌, ◌<◌}
+use native.Mathlib.Nat.{zero-add}
 use native.Mathlib.Omega.{arith}
-use lib.Dec.{eqb}
-use lib.ListN.{length, get_or, drop, length-drop, drop_of_length-le}
-use lib.Seq.{take-suc, drop-cons, get_or-drop, append_snoc}
-use borrow.Author.Tests.{eqb-true, eqb-false, eq-eqb, ne_eqb}
+use borrow.Author.Tests.{ltb-false, eqb-true, eqb-false, eq-eqb, ne_eqb}
+use lib.Dec.{eqb, ltb}
+use lib.ListN.{length, get_or}
+use Rattle.std.specs.Prelude.{Some, None, Option}
+use Rattle.std.specs.List.{position_or_len, slice_split, onto_first, enumerate_from}
+use Rattle.std.proofs.lemmas.List.FromFn.{length-enumerate_from, get_or-enumerate_from}
 use Rattle.outcome.specs.Answer.{pick}
 use Rattle.profile.specs.Line.{comma, line_feed}
 use Rattle.evaluate.specs.Evaluate.{is_closed, longer, fields}
-use Rattle.evaluate.specs.InnerText.{part, FieldEnds}
 
 -- ---- closed lines
+
+-- the place of the first LF
+abbrev first_feed : List ℕ → ℕ
+first_feed = position_or_len (λ b. eqb b line_feed)
 
 -- two comparisons of which each implies the other are the same test
 same_test : (a b c d : ℕ) → (a ≡ b → c ≡ d) → (c ≡ d → a ≡ b) → eqb a b ≡ eqb c d
@@ -24,52 +29,70 @@ same_test a b c d to from = at (eqb a b) refl
     at true e = sym (eq-eqb c d (to (eqb-true a b e)))
     at false e = sym (ne_eqb c d (λ f. eqb-false a b e (from f)))
 
-module _ (input : List ℕ) (i : ℕ) (more : i < length input) where
-  -- one byte of the rest
-  closed_step : is_closed (drop i input)
-      ≡ pick (eqb (get_or input i 0) line_feed) (eqb (length (drop (i + 1) input)) 0) (is_closed (drop (i + 1) input))
-  unfolding is_closed
-  closed_step = rw (drop-cons input i 0 more, add-one i)
-
-  -- at an LF the rest is closed exactly where that is the last byte
-  pub closed_here : get_or input i 0 ≡ line_feed → eqb (i + 1) (length input) ≡ is_closed (drop i input)
-  closed_here e =
-      let size : length (drop (i + 1) input) ≡ length input - (i + 1) = length-drop (i + 1) input in
-      let last : eqb (i + 1) (length input) ≡ eqb (length (drop (i + 1) input)) 0 =
-      same_test (i + 1) (length input) (length (drop (i + 1) input)) 0 (λ p. omega arith) (λ p. omega arith) in
-      last ∙ sym (rw (eq-eqb (get_or input i 0) line_feed e) at closed_step)
-
-  -- past another byte nothing is decided
-  pub closed_later : (get_or input i 0 ≡ line_feed → ⊥) → is_closed (drop (i + 1) input) ≡ is_closed (drop i input)
-  closed_later other = sym (rw (ne_eqb (get_or input i 0) line_feed other) at closed_step)
-
--- without an LF nothing is closed
-pub closed_never : (input : List ℕ) (i : ℕ) → length input ≤ i → false ≡ is_closed (drop i input)
+-- the first LF is the last byte
+closed_place : (input : List ℕ) → eqb (first_feed input + 1) (length input) ≡ is_closed input
 unfolding is_closed
-closed_never input i end = rw (drop_of_length-le input end)
+closed_place [] = refl
+closed_place (b ∷ bytes) = at (closed_place bytes) (eqb b line_feed)
+  where
+    at : eqb (first_feed bytes + 1) (length bytes) ≡ is_closed bytes → (t : Bool) → eqb (cond (not t) (1 + first_feed bytes) 0 + 1) (suc (length bytes))
+        ≡ pick t (eqb (length bytes) 0) (is_closed bytes)
+    at rest true = same_test 1 (suc (length bytes)) (length bytes) 0 (λ e. omega arith) (λ e. omega arith)
+    at rest false =
+        same_test (1 + first_feed bytes + 1) (suc (length bytes)) (first_feed bytes + 1) (length bytes) (λ e. omega arith)
+        (λ e. omega arith)
+        ∙ rest
+
+module _ (input : List ℕ) where
+  -- where an LF was found
+  pub closed_found : (i : ℕ)
+      → ◌≡◌ {A = Option ℕ} (Some i) (cond (ltb (first_feed input) (length input)) (Some (first_feed input)) None)
+      → eqb (i + 1) (length input) ≡ is_closed input
+  closed_found i e = at (ltb (first_feed input) (length input)) e
+    where
+      at : (t : Bool) → ◌≡◌ {A = Option ℕ} (Some i) (cond t (Some (first_feed input)) None)
+          → eqb (i + 1) (length input) ≡ is_closed input
+      at true e = let same : i ≡ first_feed input = cc in rw same (closed_place input)
+      at false e = cc
+
+  -- where none was
+  pub closed_never : ◌≡◌ {A = Option ℕ} None (cond (ltb (first_feed input) (length input)) (Some (first_feed input)) None)
+      → false ≡ is_closed input
+  closed_never e = at (ltb (first_feed input) (length input)) refl e
+    where
+      at : (t : Bool) → ltb (first_feed input) (length input) ≡ t
+          → ◌≡◌ {A = Option ℕ} None (cond t (Some (first_feed input)) None) → false ≡ is_closed input
+      at true f e = cc
+      at false f e =
+          let far : length input ≤ first_feed input = ltb-false (first_feed input) (length input) f in
+          sym (ne_eqb (first_feed input + 1) (length input) (λ same. omega arith)) ∙ closed_place input
 
 -- ---- fields
 
--- some bytes in front of the first field
-abbrev pub with_front : List ℕ → List (List ℕ) → List (List ℕ)
-with_front xs [] = xs ∷ []
-with_front xs (f ∷ fs) = (xs ++ f) ∷ fs
+-- a byte more at the front of the first field, as the library has it
+front_longer : (b : ℕ) (fs : List (List ℕ)) → longer b fs ≡ onto_first b fs
+front_longer b [] = refl
+front_longer b (f ∷ fs) = refl
 
--- a byte more at the front of the first field may as well stand at their end
-front_longer : (xs : List ℕ) (b : ℕ) (fs : List (List ℕ)) → with_front xs (longer b fs) ≡ with_front (xs ++ (b ∷ [])) fs
-front_longer xs b [] = refl
-front_longer xs b (f ∷ fs) = ap (λ (g : List ℕ). g ∷ fs) (sym (append_snoc xs b f))
+-- the fields are what the library cuts at the commas
+pub fields_split : (input : List ℕ) → slice_split (λ b. eqb b comma) input ≡ fields input
+unfolding fields
+fields_split [] = refl
+fields_split (b ∷ bytes) = at (fields_split bytes) (eqb b comma)
+  where
+    at : slice_split (λ c. eqb c comma) bytes ≡ fields bytes → (t : Bool) → cond t ([] ∷ slice_split (λ c. eqb c comma) bytes) (onto_first b (slice_split (λ c. eqb c comma) bytes))
+        ≡ pick t ([] ∷ fields bytes) (longer b (fields bytes))
+    at rest true = ap (λ (fs : List (List ℕ)). [] ∷ fs) rest
+    at rest false = ap (onto_first b) rest ∙ sym (front_longer b (fields bytes))
 
--- no comma stands from a place of the input up to another: the fields there are those behind with these bytes in front
-pub record NoComma (input : List ℕ) (at end : ℕ) : Type 0 where
-  pub start : at ≤ end
-  pub within : end ≤ length input
-  pub left : fields (drop at input) ≡ with_front (part input at end) (fields (drop end input))
+-- the bytes of some fields, with a comma each
+abbrev pub size : List (List ℕ) → ℕ
+size [] = 0
+size (f ∷ fs) = length f + 1 + size fs
 
--- no bytes in front change nothing
-front_none : (fs : List (List ℕ)) → 1 ≤ length fs → with_front [] fs ≡ fs
-front_none [] h = absurd (omega arith)
-front_none (f ∷ fs) h = refl
+size_longer : (b : ℕ) (fs : List (List ℕ)) → 1 ≤ length fs → size (longer b fs) ≡ size fs + 1
+size_longer b [] h = absurd (omega arith)
+size_longer b (f ∷ fs) h = omega arith
 
 -- there is a field then
 longer_some : (b : ℕ) (fs : List (List ℕ)) → 1 ≤ length (longer b fs)
@@ -86,78 +109,35 @@ some_field (b ∷ bytes) = at (eqb b comma)
     at true = omega arith
     at false = longer_some b (fields bytes)
 
--- no byte is passed
-pub no_comma_yet : (input : List ℕ) (at : ℕ) → at ≤ length input → NoComma input at at
-no_comma_yet input at h =
-    let none : at - at ≡ 0 = omega arith in
-    record {
-      start = omega arith;
-      within = h;
-      left = rw none (sym (front_none (fields (drop at input)) (some_field (drop at input))));
-    }
+-- the input's fields have its bytes and one comma more
+pub fields_size : (input : List ℕ) → size (fields input) ≡ length input + 1
+unfolding fields
+fields_size [] = refl
+fields_size (b ∷ bytes) = at (fields_size bytes) (eqb b comma)
+  where
+    at : size (fields bytes) ≡ length bytes + 1 → (t : Bool) → size (pick t ([] ∷ fields bytes) (longer b (fields bytes))) ≡ length (b ∷ bytes) + 1
+    at rest true = omega arith
+    at rest false = omega (arith, size_longer b (fields bytes) (some_field bytes))
 
-module _ (input : List ℕ) (at end : ℕ) (passed : NoComma input at end) where
-  module _ (more : end < length input) where
-    -- one byte more of the input
-    longer_part : part input at (end + 1) ≡ part input at end ++ (get_or input end 0 ∷ [])
-    longer_part =
-        let next : end + 1 - at ≡ suc (end - at) = omega (arith, passed.start) in
-        let place : at + (end - at) ≡ end = omega (arith, passed.start) in
-        rw next
-        (take-suc (drop at input) (end - at) 0 (omega (arith, passed.start, length-drop at input))
-        ∙ ap (λ (b : ℕ). part input at end ++ (b ∷ []))
-        (get_or-drop at input (end - at) 0 ∙ ap (λ (k : ℕ). get_or input k 0) place))
+-- the item of a turn of a loop over the fields and their numbers: the field of that number
+pub record Item (input : List ℕ) (turns k : ℕ) (f : List ℕ) : Type 0 where
+  pub inside : turns < length (fields input)
+  pub number : k ≡ turns
+  pub bytes : f ≡ get_or (fields input) turns f
 
-    -- one byte of the rest
-    fields_step : fields (drop end input)
-        ≡ pick (eqb (get_or input end 0) comma) ([] ∷ fields (drop (end + 1) input))
-        (longer (get_or input end 0) (fields (drop (end + 1) input)))
-    unfolding fields
-    fields_step = rw (drop-cons input end 0 more, add-one end)
+pub item_at : (input : List ℕ) (turns k : ℕ) (f : List ℕ)
+    → (turns < length (enumerate_from 0 (slice_split (λ b. eqb b comma) input)))
+    × ◌≡◌ {A = ℕ × List ℕ} (k, f) (get_or (enumerate_from 0 (slice_split (λ b. eqb b comma) input)) turns (k, f))
+    → Item input turns k f
+item_at input turns k f (inside, same) =
+    let cut : slice_split (λ b. eqb b comma) input ≡ fields input = fields_split input in
+    let within : turns < length (fields input) = rw (length-enumerate_from, cut) at inside in
+    let both : ◌≡◌ {A = ℕ × List ℕ} (k, f) (0 + turns, get_or (fields input) turns f) =
+    (rw cut at same) ∙ get_or-enumerate_from 0 (fields input) turns (k, f) within in
+    record { inside = within; number = ap (λ (p : ℕ × List ℕ). p.0) both ∙ zero-add turns; bytes = ap (λ (p : ℕ × List ℕ). p.1) both }
 
-    -- a byte more
-    pub no_comma_here : (get_or input end 0 ≡ comma → ⊥) → NoComma input at (end + 1)
-    no_comma_here other =
-        let behind : fields (drop end input) ≡ longer (get_or input end 0) (fields (drop (end + 1) input)) =
-        rw (ne_eqb (get_or input end 0) comma other) at fields_step in
-        record {
-          start = omega (arith, passed.start);
-          within = omega arith;
-          left =
-              passed.left
-              ∙ ap (with_front (part input at end)) behind
-              ∙ front_longer (part input at end) (get_or input end 0) (fields (drop (end + 1) input))
-              ∙ ap (λ (xs : List ℕ). with_front xs (fields (drop (end + 1) input))) (sym longer_part);
-        }
-
-    -- the comma
-    pub ends_at_comma : get_or input end 0 ≡ comma → FieldEnds input at end
-    ends_at_comma e =
-        let behind : fields (drop end input) ≡ [] ∷ fields (drop (end + 1) input) =
-        rw (eq-eqb (get_or input end 0) comma e) at fields_step in
-        record {
-          behind = passed.start;
-          within = passed.within;
-          last = λ h. absurd (omega arith);
-          more =
-              λ h.
-              passed.left
-              ∙ ap (with_front (part input at end)) behind
-              ∙ ap (λ (xs : List ℕ). xs ∷ fields (drop (end + 1) input)) (append-nil (part input at end));
-        }
-
-  -- the end of the input
-  pub ends_with_input : length input ≤ end → FieldEnds input at end
-  unfolding fields
-  ends_with_input over =
-      let behind : fields (drop end input) ≡ [] ∷ [] = rw (drop_of_length-le input over) in
-      record {
-        behind = passed.start;
-        within = passed.within;
-        last =
-            λ h.
-            passed.left
-            ∙ ap (with_front (part input at end)) behind
-            ∙ ap (λ (xs : List ℕ). xs ∷ []) (append-nil (part input at end));
-        more = λ h. absurd (omega arith);
-      }
+-- after the last turn all fields were items
+pub all_items : (input : List ℕ) (turns : ℕ) → turns ≡ length (enumerate_from 0 (slice_split (λ b. eqb b comma) input))
+    → length (fields input) ≤ turns
+all_items input turns e =
+    omega (arith, length-enumerate_from 0 (slice_split (λ b. eqb b comma) input), ap length (fields_split input))

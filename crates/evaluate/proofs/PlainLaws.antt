@@ -12,7 +12,7 @@ use lib.Dec.{T, eqb, leb}
 use lib.IntN.{ℤ, pos, neg_ℤ}
 use borrow.Author.Tests.{leb-true, ne_eqb}
 use Rattle.outcome.specs.Answer.{pick}
-use Rattle.outcome.specs.Result.{Result, done}
+use Rattle.outcome.specs.Result.{Result, Ok}
 use Rattle.outcome.proofs.Computed.{both_left, both_right}
 use Rattle.decimal.specs.Decimal.{digit, decimal}
 use Rattle.decimal.proofs.Decimal.{decimal_small, decimal_more, by_tenths}
@@ -20,8 +20,8 @@ use Rattle.formula.specs.Reader.{value_of}
 use Rattle.profile.specs.declared.Limit.{Limit}
 use Rattle.profile.specs.declared.Limit.TheVariants.{Share, Offset, Rate}
 use Rattle.profile.specs.declared.Trip.{Trip}
-use Rattle.profile.specs.declared.RatePoint.{RatePoint}
-use Rattle.profile.specs.declared.RatePoint.TheVariants.{Absent, Present}
+use Rattle.profile.specs.Rules.{RatePoint}
+use Rattle.std.specs.Prelude.{None, Some}
 use Rattle.profile.specs.declared.Profile.{Profile}
 use Rattle.profile.specs.Rules.{
   Range,
@@ -29,6 +29,7 @@ use Rattle.profile.specs.Rules.{
   contains,
   in_one_of,
   below,
+  same_kind,
   Field,
   rate_fields,
   fields_of,
@@ -96,11 +97,11 @@ free_letter b rest e f =
 
 -- the text of a field: a minus where it is below, and its number
 abbrev text_of : Field → List ℕ
-text_of f = pick (eqb f.kind below) (minus ∷ []) [] ++ decimal f.size
+text_of f = pick (same_kind f.kind below) (minus ∷ []) [] ++ decimal f.size
 
 -- it is such a text
 free_text : (f : Field) → Free (text_of f)
-free_text f = at (eqb f.kind below)
+free_text f = at (same_kind f.kind below)
   where
     at : (b : Bool) → Free (pick b (minus ∷ []) [] ++ decimal f.size)
     at true = (refl, (refl, free_decimal f.size))
@@ -161,7 +162,7 @@ module _ (value : ℕ → List ℕ → Result ℤ) where
   -- field k, of text x, and the fields behind it turn into a text and fields; the last is no limit
   data Turned : ℕ → List ℕ → List ℕ → List Field → List Field → Type 0 where
     last : {k : ℕ} {x : List ℕ} → is_limit k ≡ false → Turned k x x [] []
-    next : {k : ℕ} {x y : List ℕ} {f g : Field} {fs gs : List Field} → field_text value k x ≡ done y
+    next : {k : ℕ} {x y : List ℕ} {f g : Field} {fs gs : List Field} → field_text value k x ≡ Ok y
         → Turned (suc k) (text_of f) (text_of g) fs gs → Turned k x y (f ∷ fs) (g ∷ gs)
 
   -- a field more at the front
@@ -173,21 +174,21 @@ module _ (value : ℕ → List ℕ → Result ℤ) where
 
   -- the text of what the fields turn into
   text_turned : {k : ℕ} {x y : List ℕ} {fs gs : List Field} → Turned k x y fs gs
-      → text_from value k (pieces x fs) ≡ done (y ++ ending gs)
+      → text_from value k (pieces x fs) ≡ Ok (y ++ ending gs)
   unfolding text_from written
   text_turned (last {k} {x} e) =
-      ap (λ (b : Bool). pick b (numeral_in (value k (x ++ (line_feed ∷ [])))) (done (x ++ (line_feed ∷ [])))) e
+      ap (λ (b : Bool). pick b (numeral_in (value k (x ++ (line_feed ∷ [])))) (Ok (x ++ (line_feed ∷ [])))) e
   text_turned (next {k} {x} {y} {f} {g} {fs} {gs} e t) =
       text_more k x (text_of f) fs
       ∙ ap₂ joined e (text_turned t)
-      ∙ ap (λ (l : List ℕ). done (y ++ l)) (sym (ending_more g gs))
+      ∙ ap (λ (l : List ℕ). Ok (y ++ l)) (sym (ending_more g gs))
 
   -- tag and country stay, whatever they are
   whole_turned : (tag country : List ℕ) {x y : List ℕ} {fs gs : List Field} → Turned 2 x y fs gs
-      → text_from value 0 (tag ∷ country ∷ pieces x fs) ≡ done (tag ++ (comma ∷ (country ++ (comma ∷ (y ++ ending gs)))))
+      → text_from value 0 (tag ∷ country ∷ pieces x fs) ≡ Ok (tag ++ (comma ∷ (country ++ (comma ∷ (y ++ ending gs)))))
   unfolding text_from
   whole_turned tag country {x} {y} {fs} {gs} t =
-      ap (joined (done tag)) (text_more 1 country x fs ∙ ap (joined (done country)) (text_turned t))
+      ap (joined (Ok tag)) (text_more 1 country x fs ∙ ap (joined (Ok country)) (text_turned t))
 
 -- ---- the limits of a plain line are worth their numbers
 
@@ -237,36 +238,36 @@ worked volts k f = value_of volts f
 
 -- what is asked of `value_of`: a number, and a number behind a minus, are worth what they spell
 abbrev pub ValueNumber : Type 0
-ValueNumber = (volts n : ℕ) → n ≤ 1000000 → value_of volts (decimal n) ≡ done (pos n)
+ValueNumber = (volts n : ℕ) → n ≤ 1000000 → value_of volts (decimal n) ≡ Ok (pos n)
 
 abbrev pub ValueNegative : Type 0
-ValueNegative = (volts n : ℕ) → 1 ≤ n → n ≤ 1000000 → value_of volts (45 ∷ decimal n) ≡ done (neg_ℤ (pos n))
+ValueNegative = (volts n : ℕ) → 1 ≤ n → n ≤ 1000000 → value_of volts (45 ∷ decimal n) ≡ Ok (neg_ℤ (pos n))
 
 module _ (value_number : ValueNumber) (value_negative : ValueNegative) (volts : ℕ) where
   -- a positive number that is small enough is worth itself, with a minus and without
   number_stays : (f : Field) → (1 ≤ f.size) × (f.size ≤ 1000000)
-      → numeral_in (value_of volts (text_of f)) ≡ done (text_of f)
-  number_stays f h = at (eqb f.kind below)
+      → numeral_in (value_of volts (text_of f)) ≡ Ok (text_of f)
+  number_stays f h = at (same_kind f.kind below)
     where
       at : (b : Bool) → numeral_in (value_of volts (pick b (minus ∷ []) [] ++ decimal f.size))
-          ≡ done (pick b (minus ∷ []) [] ++ decimal f.size)
+          ≡ Ok (pick b (minus ∷ []) [] ++ decimal f.size)
       at true =
-          ap numeral_in (value_negative volts f.size h.0 h.1) ∙ ap done (negative_numeral f.size h.0)
+          ap numeral_in (value_negative volts f.size h.0 h.1) ∙ ap Ok (negative_numeral f.size h.0)
       at false = ap numeral_in (value_number volts f.size h.1)
 
   -- so a field that fits its rule stays, limit or not
   field_stays : (k : ℕ) (r : Rule) (f : Field) → fits r f ≡ true → T (small_at k r)
-      → field_text (worked volts) k (text_of f) ≡ done (text_of f)
+      → field_text (worked volts) k (text_of f) ≡ Ok (text_of f)
   field_stays k r f e t = at (is_limit k) t
     where
       at : (b : Bool) → T (pick b (small r.ranges) true)
-          → pick b (numeral_in (value_of volts (text_of f))) (done (text_of f)) ≡ done (text_of f)
+          → pick b (numeral_in (value_of volts (text_of f))) (Ok (text_of f)) ≡ Ok (text_of f)
       at true s = number_stays f (small_size r.ranges f.size (size_fits r f e) s)
       at false s = refl
 
   -- and so do all fields behind one that stays
   stays : (k : ℕ) (x : List ℕ) (rs : List Rule) (fs : List Field) → obeys rs fs ≡ true → T (small_behind k rs)
-      → field_text (worked volts) k x ≡ done x → Turned (worked volts) k x x fs fs
+      → field_text (worked volts) k x ≡ Ok x → Turned (worked volts) k x x fs fs
   unfolding obeys
   stays k x [] [] e t here = last (no_limit (is_limit k) t)
   stays k x [] (f ∷ fs) e t here = absurd (false≢true e)
@@ -285,8 +286,8 @@ sound_trip l t = record { limit = l; delay = t.delay }
 
 -- a rate point, where it is present
 abbrev sound_rate : RatePoint → RatePoint
-sound_rate Absent = Absent
-sound_rate (Present t) = Present (sound_trip (Rate 100) t)
+sound_rate None = None
+sound_rate (Some t) = Some (sound_trip (Rate 100) t)
 
 -- the limits are 1001, 1, 1, -1 and 100, all else is as it was
 abbrev pub sound : Profile → Profile
@@ -306,8 +307,8 @@ sound p =
 
 -- its line is of the same kind
 sound_kind : (point : RatePoint) → kind_for (sound_rate point) ≡ kind_for point
-sound_kind Absent = refl
-sound_kind (Present t) = refl
+sound_kind None = refl
+sound_kind (Some t) = refl
 
 -- fields of which some are replaced by others that fit their rules
 data Put : List Rule → List Field → List Field → Type 0 where
@@ -325,8 +326,8 @@ put_obeys (put {r} {f} h s) e = rw h (put_obeys s (and_rest (fits r f) _ e))
 
 -- the fields of the profile with sound limits are such fields
 rate_put : (point : RatePoint) → Put (rate_rules (kind_for point)) (rate_fields point) (rate_fields (sound_rate point))
-rate_put Absent = none
-rate_put (Present t) = put refl (kept none)
+rate_put None = none
+rate_put (Some t) = put refl (kept none)
 
 sound_put : (p : Profile) → Put (rules (line_kind p)) (fields_of p) (fields_of (sound p))
 unfolding fields_of
@@ -344,12 +345,12 @@ sound_valid table p ok =
 
 -- the number that each limit is replaced by
 abbrev soundly : ℕ → List ℕ → Result ℤ
-soundly k f = done (sound_limit k)
+soundly k f = Ok (sound_limit k)
 
 -- its fields are what those of the profile turn into
 rate_turned : (point : RatePoint) {x : List ℕ} → Turned soundly 13 x x (rate_fields point) (rate_fields (sound_rate point))
-rate_turned Absent = last refl
-rate_turned (Present t) = next refl (next refl (last refl))
+rate_turned None = last refl
+rate_turned (Some t) = next refl (next refl (last refl))
 
 sound_turned : (p : Profile) (x : List ℕ) → Turned soundly 2 x x (fields_of p) (fields_of (sound p))
 unfolding fields_of
@@ -413,22 +414,22 @@ module _ (table : List Class) (p : Profile) (ok : T (valid table p)) where
       ∙ ap (λ (l : List (List ℕ)). country_of p ∷ l) (cut_pieces (p.class ∷ []) (fields_of p) free_class))
 
   -- with sound limits it is the line of the profile with sound limits, which is read, with the same volts
-  sound_line : sound_text (line_of p) ≡ done (line_of (sound p))
+  sound_line : sound_text (line_of p) ≡ Ok (line_of (sound p))
   unfolding sound_text line_of
   sound_line =
       let rest : List ℕ = country_of p ++ (comma ∷ p.class ∷ ending (fields_of (sound p))) in
       ap (text_from soundly 0) cut_line
       ∙ whole_turned soundly (tag_of (line_kind p)) (country_of p) (sound_turned p (p.class ∷ []))
-      ∙ ap (λ (kind : LineKind). done (tag_of kind ++ (comma ∷ rest))) (sym (sound_kind p.rate_of_change))
+      ∙ ap (λ (kind : LineKind). Ok (tag_of kind ++ (comma ∷ rest))) (sym (sound_kind p.rate_of_change))
 
-  pub framed : frame table (line_of p) ≡ done (sound p)
+  pub framed : frame table (line_of p) ≡ Ok (sound p)
   framed =
       ap (λ (text : Result (List ℕ)). read_line table (text_in text)) sound_line
       ∙ reads_written table (sound p) (sound_valid table p ok)
 
   -- with its limits worked out it is itself
   module _ (value_number : ValueNumber) (value_negative : ValueNegative) where
-    pub plain_line_lem : (volts : ℕ) → plain_text volts (line_of p) ≡ done (line_of p)
+    pub plain_line_lem : (volts : ℕ) → plain_text volts (line_of p) ≡ Ok (line_of p)
     unfolding plain_text line_of
     plain_line_lem volts =
         ap (text_from (worked volts) 0) cut_line

@@ -9,7 +9,7 @@ use lib.ListN.{length, drop}
 use lib.IntN.{ℤ}
 use borrow.Author.Tests.{le-leb, eq-eqb}
 use Rattle.outcome.specs.Answer.{bad_size, bad_profile, Check, ◌unless◌, first_refusal, Passed}
-use Rattle.outcome.specs.Result.{Result, done, refused}
+use Rattle.outcome.specs.Result.{Result, Ok, Err}
 use Rattle.outcome.proofs.Checks.{holds, passed, answered}
 use Rattle.formula.specs.Reader.{value_of}
 use Rattle.formula.proofs.Theorems.{worth_is_meant, one_meaning, value_number, value_negative}
@@ -53,7 +53,7 @@ text_as_meant meant means volts input =
 
 -- what an entry hands out that refuses nothing: the plain line
 handed : (table input old : List ℕ) (before answer : ℕ) (lent : List ℕ) (after : ℕ) (text : List ℕ)
-    → EvaluatesLine table input old before answer lent after → answer ≡ 0 → plain_line (table_of table) input ≡ done text
+    → EvaluatesLine table input old before answer lent after → answer ≡ 0 → plain_line (table_of table) input ≡ Ok text
     → (lent ≡ text ++ drop (length text) old) × (after ≡ length text)
 handed table input old before answer lent after text meets zero plain =
     (meets.answers.content ∙ rw (zero, plain), meets.size ∙ rw (zero, plain))
@@ -62,14 +62,14 @@ handed table input old before answer lent after text meets zero plain =
 
 -- a text whose checks all pass is the line of a valid profile
 finished : (table : List Class) (plain : Result (List ℕ)) → first_refusal (plain_checks table plain) ≡ 0
-    → (p : Profile) × T (valid table p) × (plain ≡ done (line_of p))
-finished table (refused r) e = absurd (passed (plain_checks table (refused r)) e).0
-finished table (done text) e = at (read_line table text) refl (passed (plain_checks table (done text)) e).0
+    → (p : Profile) × T (valid table p) × (plain ≡ Ok (line_of p))
+finished table (Err r) e = absurd (passed (plain_checks table (Err r)) e).0
+finished table (Ok text) e = at (read_line table text) refl (passed (plain_checks table (Ok text)) e).0
   where
     at : (read : Result Profile) → read_line table text ≡ read → T (is_read read)
-        → (p : Profile) × T (valid table p) × (◌≡◌ {A = Result (List ℕ)} (done text) (done (line_of p)))
-    at (done p) f t = let back = writes_read table text p f in (p, back.1, ap done (sym back.0))
-    at (refused r) f t = absurd t
+        → (p : Profile) × T (valid table p) × (◌≡◌ {A = Result (List ℕ)} (Ok text) (Ok (line_of p)))
+    at (Ok p) f t = let back = writes_read table text p f in (p, back.1, ap Ok (sym back.0))
+    at (Err r) f t = absurd t
 
 pub comes_out_read : (table : List ℕ) → ComesOutRead table
 comes_out_read table input old before answer lent after meets zero =
@@ -77,11 +77,11 @@ comes_out_read table input old before answer lent after meets zero =
     let checks : List Check = evaluate_checks table input old in
     let known : Passed checks = passed checks (sym meets.answers.answer ∙ zero) in
     let rest : List Check = plain_checks classes (plain_line classes input) in
-    let found : (p : Profile) × T (valid classes p) × (plain_line classes input ≡ done (line_of p)) =
+    let found : (p : Profile) × T (valid classes p) × (plain_line classes input ≡ Ok (line_of p)) =
     finished classes (plain_line classes input) (answered rest known.1.1.1.1.1) in
     let p : Profile = found.0 in
     let ok : T (valid classes p) = found.1 in
-    let plain : plain_line classes input ≡ done (line_of p) = found.2 in
+    let plain : plain_line classes input ≡ Ok (line_of p) = found.2 in
     let out : (lent ≡ line_of p ++ drop (length (line_of p)) old) × (after ≡ length (line_of p)) =
     handed table input old before answer lent after (line_of p) meets zero plain in
     (p, ok, plain, reads_written classes p ok, out.0, out.1)
@@ -91,7 +91,7 @@ comes_out_read table input old before answer lent after meets zero =
 module _ (table : List ℕ) where
   -- the line of a valid profile passes every check, and the plain line is itself
   module _ (p : Profile) (ok : T (valid (table_of table) p)) where
-    itself : plain_line (table_of table) (line_of p) ≡ done (line_of p)
+    itself : plain_line (table_of table) (line_of p) ≡ Ok (line_of p)
     itself = plain_line_lem (table_of table) p ok value_number value_negative (volts_in (frame (table_of table) (line_of p)))
 
     passes : (old : List ℕ) → length table ≡ table_size → length old ≡ longest
@@ -127,8 +127,8 @@ module _ (table : List ℕ) where
       let zero : answer ≡ 0 =
       meets.answers.answer
       ∙ subst (λ (l : List ℕ). first_refusal (evaluate_checks table l old) ≡ 0) back.0 (passes p ok old whole room) in
-      let plain : plain_line (table_of table) line ≡ done line =
-      subst (λ (l : List ℕ). plain_line (table_of table) l ≡ done l) back.0 (itself p ok) in
+      let plain : plain_line (table_of table) line ≡ Ok line =
+      subst (λ (l : List ℕ). plain_line (table_of table) l ≡ Ok l) back.0 (itself p ok) in
       let out : (lent ≡ line ++ drop (length line) old) × (after ≡ length line) =
       handed table line old before answer lent after line meets zero plain in
       (zero, out.0, out.1)

@@ -5,7 +5,7 @@
 use Rattle.std.specs.Prelude.{◌≡◌, List, [], ◌∷◌, ◌++◌, map, ℕ, ◌*◌, eqb, replicate, ℤ, pos, negsuc}
 use Prim.Native.String.{String}
 use Rattle.outcome.specs.Answer.{first_refusal, pick, number_of}
-use Rattle.outcome.specs.Result.{Result, done, refused}
+use Rattle.outcome.specs.Result.{Result, Ok, Err}
 use Rattle.words.specs.Words.{word}
 use Rattle.formula.specs.Reader.{value_of}
 use Rattle.profile.specs.Table.{row_size, table_size, table_of}
@@ -51,8 +51,8 @@ abbrev pub writes : String → Outcome
 writes text = writes_bytes (bytes text)
 
 abbrev pub worth_in : Result ℤ → Outcome
-worth_in (done z) = worth z
-worth_in (refused r) = refuses (number_of r)
+worth_in (Ok z) = worth z
+worth_in (Err r) = refuses (number_of r)
 
 -- an input under the table of an image
 abbrev pub written : List ℕ → List ℕ → Outcome

@@ -3,7 +3,7 @@
 -- Assumes nothing.
 use Rattle.std.specs.Prelude.{Bool, true, false, List, [], ◌∷◌, ◌++◌, ℕ, suc, eqb, leb, length, ℤ, pos, negsuc}
 use Rattle.outcome.specs.Answer.{bad_size, bad_profile, Check, ◌unless◌, pick, AnswersFront}
-use Rattle.outcome.specs.Result.{Result, done, refused, refusal_in}
+use Rattle.outcome.specs.Result.{Result, Ok, Err, refusal_in}
 use Rattle.decimal.specs.Decimal.{decimal}
 use Rattle.formula.specs.Reader.{value_of}
 use Rattle.profile.specs.declared.Profile.{Profile}
@@ -44,22 +44,22 @@ numeral (pos n) = decimal n
 numeral (negsuc n) = minus ∷ decimal (suc n)
 
 abbrev pub numeral_in : Result ℤ → Result (List ℕ)
-numeral_in (done z) = done (numeral z)
-numeral_in (refused r) = refused r
+numeral_in (Ok z) = Ok (numeral z)
+numeral_in (Err r) = Err r
 
 -- in the place of field k: of a limit the number that `value` has for it, of any other field what it is
 abbrev pub field_text : (ℕ → List ℕ → Result ℤ) → ℕ → List ℕ → Result (List ℕ)
-field_text value k f = pick (is_limit k) (numeral_in (value k f)) (done f)
+field_text value k f = pick (is_limit k) (numeral_in (value k f)) (Ok f)
 
 -- two texts with a comma between; the first refusal decides
 abbrev pub joined : Result (List ℕ) → Result (List ℕ) → Result (List ℕ)
-joined (done x) (done y) = done (x ++ (comma ∷ y))
-joined (done x) (refused r) = refused r
-joined (refused r) y = refused r
+joined (Ok x) (Ok y) = Ok (x ++ (comma ∷ y))
+joined (Ok x) (Err r) = Err r
+joined (Err r) y = Err r
 
 -- the fields from number k on, with a number in place of each limit
 unfoldable pub text_from : (ℕ → List ℕ → Result ℤ) → ℕ → List (List ℕ) → Result (List ℕ)
-text_from value k [] = done []
+text_from value k [] = Ok []
 text_from value k (f ∷ []) = field_text value k f
 text_from value k (f ∷ g ∷ fs) = joined (field_text value k f) (text_from value (suc k) (g ∷ fs))
 
@@ -70,7 +70,7 @@ sound_limit k =
 
 -- the line with sound limits: it reads exactly where all that is not a limit is right
 unfoldable pub sound_text : List ℕ → Result (List ℕ)
-sound_text input = text_from (λ k f. done (sound_limit k)) 0 (fields input)
+sound_text input = text_from (λ k f. Ok (sound_limit k)) 0 (fields input)
 
 -- the line with each limit worked out at these nominal volts, or the first refusal of a formula from the left
 unfoldable pub plain_text : ℕ → List ℕ → Result (List ℕ)
@@ -79,16 +79,16 @@ plain_text volts input = text_from (λ k f. value_of volts f) 0 (fields input)
 -- ---- the entry
 
 abbrev pub text_in : Result (List ℕ) → List ℕ
-text_in (done text) = text
-text_in (refused r) = []
+text_in (Ok text) = text
+text_in (Err r) = []
 
 abbrev pub is_read : Result Profile → Bool
-is_read (done p) = true
-is_read (refused r) = false
+is_read (Ok p) = true
+is_read (Err r) = false
 
 abbrev pub volts_in : Result Profile → ℕ
-volts_in (done p) = p.volts
-volts_in (refused r) = 0
+volts_in (Ok p) = p.volts
+volts_in (Err r) = 0
 
 -- what is read of the line with sound limits
 abbrev pub frame : List Class → List ℕ → Result Profile

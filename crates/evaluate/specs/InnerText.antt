@@ -1,14 +1,13 @@
 -- What the functions promise that store a line's text, field after field. No contract of an entry cites it.
 -- Assumes nothing.
-use Rattle.std.specs.Prelude.{◌≡◌, Bool, List, [], ◌∷◌, ℕ, ◌+◌, ◌-◌, ◌≤◌, ◌<◌, length, take, drop, ℤ}
+use Rattle.std.specs.Prelude.{◌≡◌, List, ℕ, ◌+◌, ◌≤◌, length, Option, Some, None, ℤ}
 use Rattle.std.proofs.lemmas.List.Edits.{sets}
-use Rattle.outcome.specs.Answer.{bad_formula, bad_step, pick, AnswersFront}
-use Rattle.outcome.specs.Result.{Result, done, refused}
+use Rattle.outcome.specs.Answer.{pick, AnswersFront}
+use Rattle.outcome.specs.Result.{Result, Ok, Err}
+use Rattle.formula.specs.declared.volts.Volts.{Volts}
 use Rattle.formula.specs.Reader.{value_of}
 use Rattle.profile.specs.Rules.{Class}
 use Rattle.profile.specs.Line.{longest}
-use Rattle.evaluate.specs.declared.rewrite.Rewritten.{Rewritten}
-use Rattle.evaluate.specs.declared.rewrite.Rewritten.TheVariants.{Length, BadFormula, BadStep}
 use Rattle.evaluate.specs.Evaluate.{
   longest_input,
   fields,
@@ -34,50 +33,34 @@ room = 576
 abbrev pub IsLent : List ℕ → Type 0
 IsLent lent = length lent ≡ longest
 
--- the bytes of the input from a place up to another
-abbrev pub part : List ℕ → ℕ → ℕ → List ℕ
-part input at end = take (end - at) (drop at input)
+-- the number of field k: what the formula is worth at these volts, or without volts the sound limit
+abbrev pub number_at : Option Volts → ℕ → List ℕ → Result ℤ
+number_at (Some v) k f = value_of v.volts f
+number_at None k f = Ok (sound_limit k)
 
--- the fields from a place on: the one that ends here, and where a comma ends it those behind the comma
-pub record FieldEnds (input : List ℕ) (at end : ℕ) : Type 0 where
-  pub behind : at ≤ end
-  pub within : end ≤ length input
-  pub last : length input ≤ end → fields (drop at input) ≡ part input at end ∷ []
-  pub more : end < length input → fields (drop at input) ≡ part input at end ∷ fields (drop (end + 1) input)
-
--- the number of field k: what the formula is worth, or the sound limit
-abbrev pub number_as : Bool → ℕ → ℕ → List ℕ → Result ℤ
-number_as worked volts k f = pick worked (value_of volts f) (done (sound_limit k))
-
--- what each case of the answer means: the place behind the text, or the formula's refusal
-abbrev pub rewritten : Rewritten → Result ℕ
-rewritten (Length n) = done n
-rewritten BadFormula = refused bad_formula
-rewritten BadStep = refused bad_step
-
+-- the place behind a text that is stored from a place on, or its refusal
 abbrev pub end_of : ℕ → Result (List ℕ) → Result ℕ
-end_of at (done text) = done (at + length text)
-end_of at (refused r) = refused r
+end_of at (Ok text) = Ok (at + length text)
+end_of at (Err r) = Err r
 
 -- the text ends no further than here
-abbrev pub Ends : ℕ → Rewritten → Type 0
-Ends most (Length n) = n ≤ most
-Ends most BadFormula = Unit {0}
-Ends most BadStep = Unit {0}
+abbrev pub Ends : ℕ → Result ℕ → Type 0
+Ends most (Ok n) = n ≤ most
+Ends most (Err r) = Unit {0}
 
 -- the text was stored from a place on, and ends no further than `most`; or it is refused, and then the bytes may hold anything
-pub record Puts (text : Result (List ℕ)) (most : ℕ) (old : List ℕ) (at : ℕ) (r : Rewritten) (new : List ℕ) : Type 0 where
-  pub answered : rewritten r ≡ end_of at text
+pub record Puts (text : Result (List ℕ)) (most : ℕ) (old : List ℕ) (at : ℕ) (r : Result ℕ) (new : List ℕ) : Type 0 where
+  pub answered : r ≡ end_of at text
   pub ends : Ends most r
-  pub stored : (bytes : List ℕ) → text ≡ done bytes → new ≡ sets old at bytes
+  pub stored : (bytes : List ℕ) → text ≡ Ok bytes → new ≡ sets old at bytes
 
 -- a number has at most 11 characters
-abbrev pub PutsField : Bool → ℕ → ℕ → List ℕ → List ℕ → ℕ → Rewritten → List ℕ → Type 0
-PutsField worked volts k field old at =
-    Puts (field_text (number_as worked volts) k field) (at + length field + pick (is_limit k) 11 0) old at
+abbrev pub PutsField : Option Volts → ℕ → List ℕ → List ℕ → ℕ → Result ℕ → List ℕ → Type 0
+PutsField volts k field old at =
+    Puts (field_text (number_at volts) k field) (at + length field + pick (is_limit k) 11 0) old at
 
-abbrev pub Rewrites : Bool → ℕ → List ℕ → List ℕ → Rewritten → List ℕ → Type 0
-Rewrites worked volts input old = Puts (text_from (number_as worked volts) 0 (fields input)) room old 0
+abbrev pub Rewrites : Option Volts → List ℕ → List ℕ → Result ℕ → List ℕ → Type 0
+Rewrites volts input old = Puts (text_from (number_at volts) 0 (fields input)) room old 0
 
 -- ---- the end of the entry
 

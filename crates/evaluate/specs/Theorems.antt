@@ -2,7 +2,7 @@
 -- stand in proofs/Theorems.antt.
 -- Assumes nothing.
 use Rattle.std.specs.Prelude.{◌≡◌, List, ◌++◌, ℕ, T, length, drop, ℤ}
-use Rattle.outcome.specs.Result.{Result, done}
+use Rattle.outcome.specs.Result.{Result, Ok}
 use Rattle.formula.specs.Meaning.{Means}
 use Rattle.profile.specs.declared.Profile.{Profile}
 use Rattle.profile.specs.Rules.{valid}
@@ -22,14 +22,14 @@ module _ (table : List ℕ) where
   ComesOutRead =
       (input old : List ℕ) (before answer : ℕ) (lent : List ℕ) (after : ℕ)
       → EvaluatesLine table input old before answer lent after → answer ≡ 0
-      → (p : Profile) × T (valid (table_of table) p) × (plain_line (table_of table) input ≡ done (line_of p))
-      × (read_line (table_of table) (line_of p) ≡ done p)
+      → (p : Profile) × T (valid (table_of table) p) × (plain_line (table_of table) input ≡ Ok (line_of p))
+      × (read_line (table_of table) (line_of p) ≡ Ok p)
       × (lent ≡ line_of p ++ drop (length (line_of p)) old) × (after ≡ length (line_of p))
 
   -- a plain line comes out as it is
   abbrev pub PlainStays : Type 0
   PlainStays =
-      (line : List ℕ) (p : Profile) → length table ≡ table_size → read_line (table_of table) line ≡ done p
+      (line : List ℕ) (p : Profile) → length table ≡ table_size → read_line (table_of table) line ≡ Ok p
       → (old : List ℕ) (before answer : ℕ) (lent : List ℕ) (after : ℕ) → length old ≡ longest
       → EvaluatesLine table line old before answer lent after
       → (answer ≡ 0) × (lent ≡ line ++ drop (length line) old) × (after ≡ length line)

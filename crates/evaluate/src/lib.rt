@@ -4,18 +4,18 @@
 mod fields;
 mod rewrite;
 
-ghost use Rattle.std.specs.Prelude.{◌≤◌};
-ghost use Rattle.formula.specs.Grammar.{most_volts};
+ghost use Rattle.std.specs.Prelude.{ℕ};
+ghost use Rattle.outcome.specs.Result.{number_in, length_in};
 ghost use Rattle.profile.specs.Table.{table_of};
 ghost use Rattle.evaluate.specs.Evaluate.{EvaluatesLine};
 ghost use Rattle.evaluate.specs.InnerText.{IsShort, IsLent, FinishesLine, FinishesText};
 
-use buffers::copy;
 use fields::is_closed;
-use outcome::{BAD_FORMULA, BAD_PROFILE, BAD_SIZE, BAD_STEP};
+use formula::Volts;
+use outcome::Refusal;
 use profile::table::TABLE_SIZE;
-use profile::{LONGEST, ReadLine, read_line};
-use rewrite::{Rewritten, rewrite};
+use profile::{LONGEST, read_line};
+use rewrite::rewrite;
 
 // The greatest length of an input.
 pub const LONGEST_INPUT: usize = 400;
@@ -24,59 +24,54 @@ pub const LONGEST_INPUT: usize = 400;
 pub const ROOM: usize = 576;
 
 // Hands out the text where it is a line.
-fn finish_line(table: &[u8], text: &[u8], out: &mut [u8], length: &mut usize) -> u8
+fn finish_line(table: &[u8], text: &[u8], out: &mut [u8]) -> Result<usize, Refusal>
     requires { IsLent out.old }
-    ensures { FinishesLine (table_of table.now) text.now out.old length.old result
-        out.new length.new }
+    ensures { (before : ℕ) → FinishesLine (table_of table.now) text.now out.old before (number_in result)
+        out.new (length_in before result) }
 {
-    let ReadLine::Read(_) = read_line(table, text) else {
-        return BAD_PROFILE;
+    let Ok(_) = read_line(table, text) else {
+        return Err(Refusal::BadProfile);
     };
     let n = text.len();
-    copy(&mut out[..n], text);
-    *length = n;
-    0
+    out[..n].copy_from_slice(text);
+    Ok(n)
 }
 
 // Works the formulas out, from left to right, and hands out the line with their numbers.
-fn finish(table: &[u8], input: &[u8], volts: u32, out: &mut [u8], length: &mut usize) -> u8
+fn finish(table: &[u8], input: &[u8], volts: Volts, out: &mut [u8]) -> Result<usize, Refusal>
     requires short { IsShort input.now }
-    requires volts_le_most_volts { volts ≤ most_volts }
     requires lent { IsLent out.old }
-    ensures { FinishesText (table_of table.now) volts input.now out.old
-        length.old result out.new length.new }
+    ensures { (before : ℕ) → FinishesText (table_of table.now) volts.volts input.now out.old before (number_in result)
+        out.new (length_in before result) }
 {
     let mut text = [0u8; ROOM];
-    match rewrite(input, true, volts, &mut text) {
-        Rewritten::Length(n) => finish_line(table, &text[..n], out, length),
-        Rewritten::BadFormula => BAD_FORMULA,
-        Rewritten::BadStep => BAD_STEP,
-    }
+    let n = rewrite(input, Some(volts), &mut text)?;
+    finish_line(table, &text[..n], out)
 }
 
-// Writes the line that a line with formulas stands for at the front of 84 lent bytes.
-pub fn evaluate_line(table: &[u8], input: &[u8], out: &mut [u8], length: &mut usize) -> u8
-    ensures { EvaluatesLine table.now input.now out.old length.old result
-        out.new length.new }
+// Writes the line that a line with formulas stands for at the front of 84 lent bytes, and returns its length.
+pub fn evaluate_line(table: &[u8], input: &[u8], out: &mut [u8]) -> Result<usize, Refusal>
+    ensures { (before : ℕ) → EvaluatesLine table.now input.now out.old before (number_in result)
+        out.new (length_in before result) }
 {
     if table.len() != TABLE_SIZE {
-        return BAD_SIZE;
+        return Err(Refusal::BadSize);
     }
     if input.len() > LONGEST_INPUT {
-        return BAD_SIZE;
+        return Err(Refusal::BadSize);
     }
     if out.len() != LONGEST {
-        return BAD_SIZE;
+        return Err(Refusal::BadSize);
     }
     if !is_closed(input) {
-        return BAD_PROFILE;
+        return Err(Refusal::BadProfile);
     }
     let mut text = [0u8; ROOM];
-    let Rewritten::Length(n) = rewrite(input, false, 0, &mut text) else {
-        return BAD_PROFILE;
+    let Ok(n) = rewrite(input, None, &mut text) else {
+        return Err(Refusal::BadProfile);
     };
-    let ReadLine::Read(p) = read_line(table, &text[..n]) else {
-        return BAD_PROFILE;
+    let Ok(p) = read_line(table, &text[..n]) else {
+        return Err(Refusal::BadProfile);
     };
-    finish(table, input, p.volts, out, length)
+    finish(table, input, Volts { volts: p.volts }, out)
 }

@@ -1,32 +1,20 @@
 // A line with numbers in place of its limits.
 ghost use Rattle.std.specs.Prelude.{◌≡◌, ◌+◌, ◌≤◌, length, nat_abs};
 ghost use Rattle.decimal.specs.Decimal.{Room, Appended};
-ghost use Rattle.formula.specs.Grammar.{most_volts, most_step};
+ghost use Rattle.formula.specs.Grammar.{most_step};
 ghost use Rattle.formula.specs.Meaning.{Answered};
 ghost use Rattle.evaluate.specs.Evaluate.{is_limit, sound_limit, numeral};
-ghost use Rattle.evaluate.specs.InnerText.{IsShort, room, number_as, PutsField, Rewrites};
+ghost use Rattle.evaluate.specs.InnerText.{IsShort, room, number_at, PutsField, Rewrites};
 
-use super::fields::field_end;
-use buffers::copy;
 use decimal::write_decimal;
-use formula::{Evaluated, evaluate};
-
-// The text is this long; or a formula has one of the two faults.
-#[derive(Clone, Copy)]
-pub enum Rewritten {
-    Length(usize),
-    BadFormula,
-    BadStep,
-}
+use formula::{Volts, evaluate};
+use outcome::Refusal;
 
 // Whether field k, counted from 0, is a limit.
 fn is_limit(k: usize) -> bool
     ensures { result ≡ is_limit k }
 {
-    match k {
-        6 | 8 | 10 | 12 | 14 => true,
-        _ => false,
-    }
+    matches!(k, 6 | 8 | 10 | 12 | 14)
 }
 
 // A limit that every line may have as its field k.
@@ -42,15 +30,14 @@ fn sound_limit(k: usize) -> i64
     }
 }
 
-// The number of field k: what the formula is worth, or the sound limit.
-fn limit_number(field: &[u8], k: usize, worked: bool, volts: u32) -> Evaluated
-    requires { volts ≤ most_volts }
-    ensures { Answered (number_as worked volts k field.now) result }
+// The number of field k: what the formula is worth at these volts, or without volts the sound limit.
+fn limit_number(field: &[u8], k: usize, volts: Option<Volts>) -> Result<i64, Refusal>
+    ensures { Answered (number_at volts k field.now) result }
 {
-    if worked {
-        return evaluate(field, volts);
+    match volts {
+        Some(volts) => evaluate(field, volts),
+        None => Ok(sound_limit(k)),
     }
-    Evaluated::Value(sound_limit(k))
 }
 
 // Stores a whole number in decimal from place `at`, and returns the place after it.
@@ -59,11 +46,12 @@ fn append_numeral(z: i64, out: &mut [u8], at: usize) -> usize
     requires room { Room out.old at (numeral z) }
     ensures { Appended out.old at (numeral z) out.new result }
 {
+    let digits = z.unsigned_abs() as u32;
     if z >= 0 {
-        return write_decimal(z as u32, out, at);
+        return write_decimal(digits, out, at);
     }
     out[at] = b'-';
-    write_decimal((0 - z) as u32, out, at + 1)
+    write_decimal(digits, out, at + 1)
 }
 
 // Stores a field as it is.
@@ -72,54 +60,41 @@ fn append_field(field: &[u8], out: &mut [u8], at: usize) -> usize
     ensures { Appended out.old at field.now out.new result }
 {
     let end = at + field.len();
-    copy(&mut out[at..end], field);
+    out[at..end].copy_from_slice(field);
     end
 }
 
-// Stores what stands in the place of field k.
+// Stores what stands in the place of field k, and returns the place after it.
 fn put_field(
     field: &[u8],
     k: usize,
-    worked: bool,
-    volts: u32,
+    volts: Option<Volts>,
     out: &mut [u8],
     at: usize,
-) -> Rewritten
-    requires volts_le_most_volts { volts ≤ most_volts }
-    requires field_in_bounds { at + length field.now + 11 ≤ length out.old }
-    ensures { PutsField worked volts k field.now out.old at result out.new }
+) -> Result<usize, Refusal>
+    requires { at + length field.now + 11 ≤ length out.old }
+    ensures { PutsField volts k field.now out.old at result out.new }
 {
     if !is_limit(k) {
-        return Rewritten::Length(append_field(field, out, at));
+        return Ok(append_field(field, out, at));
     }
-    match limit_number(field, k, worked, volts) {
-        Evaluated::Value(z) => Rewritten::Length(append_numeral(z, out, at)),
-        Evaluated::BadFormula => Rewritten::BadFormula,
-        Evaluated::BadStep => Rewritten::BadStep,
-    }
+    let number = limit_number(field, k, volts)?;
+    Ok(append_numeral(number, out, at))
 }
 
-// Stores the input with a number in place of each limit, field after field.
-pub fn rewrite(input: &[u8], worked: bool, volts: u32, out: &mut [u8]) -> Rewritten
+// Stores the input with a number in place of each limit, field after field, and returns its length.
+pub fn rewrite(input: &[u8], volts: Option<Volts>, out: &mut [u8]) -> Result<usize, Refusal>
     requires short { IsShort input.now }
-    requires volts_le_most_volts { volts ≤ most_volts }
     requires out_len { length out.old ≡ room }
-    ensures { Rewrites worked volts input.now out.old result out.new }
+    ensures { Rewrites volts input.now out.old result out.new }
 {
-    let mut at = 0;
-    let mut end = field_end(input, 0);
-    let mut k: usize = 0;
     let mut next = 0;
-    while end < input.len() {
-        let put = put_field(&input[at..end], k, worked, volts, out, next);
-        let Rewritten::Length(n) = put else {
-            return put;
-        };
-        out[n] = b',';
-        next = n + 1;
-        at = end + 1;
-        k += 1;
-        end = field_end(input, at);
+    for (k, field) in input.split(|b| *b == b',').enumerate() {
+        if k > 0 {
+            out[next] = b',';
+            next += 1;
+        }
+        next = put_field(field, k, volts, out, next)?;
     }
-    put_field(&input[at..end], k, worked, volts, out, next)
+    Ok(next)
 }

@@ -9,15 +9,12 @@ use native.Mathlib.Decide.{dec_lt}
 use native.Mathlib.Omega.{arith}
 use borrow.Author.Tests.{leb-true, le-leb, lt-leb}
 use lib.Dec.{T, leb}
-use lib.IntN.{ℤ, pos}
 use lib.ListN.{length, drop, get_or, length-drop}
 use lib.Seq.{get_or-drop}
-use mir.Facts.{to_z_pos}
-use mir.Syntax.{w64}
-use mir.Val.{to_z}
 use Rattle.outcome.specs.Lists.{same}
-use Rattle.outcome.specs.Result.{done}
 use Rattle.outcome.proofs.Lists.{same_refl, same_equal}
+use Rattle.std.specs.Prelude.{Some, None}
+use Rattle.decimal.specs.declared.Number.{Number}
 use Rattle.decimal.specs.Decimal.{
   digit,
   decimal,
@@ -30,11 +27,9 @@ use Rattle.decimal.specs.Decimal.{
   NumberAt,
 }
 use Rattle.decimal.proofs.Decimal.{decimal_small, decimal_more, length_small, digit_low, no_leading_zero, one_digit}
-use Rattle.formula.specs.declared.steps.Worth.TheVariants.{Number}
-use Rattle.formula.specs.declared.reader.Part.TheVariants.{Read, Unread}
 use Rattle.formula.specs.Grammar.{most_number}
 use Rattle.formula.specs.Reader.{found, none, read_number}
-use Rattle.formula.specs.InnerReader.{bounded, worths, NumberPart}
+use Rattle.formula.specs.InnerReader.{worths, NumberPart}
 
 -- ---- the digits with which some bytes begin
 
@@ -182,53 +177,52 @@ large_none bs h =
 
 -- ---- what `read_decimal` found at a place tells what `read_number` finds there
 
-module _ {s : List ℕ} {at value end : ℕ} (number : NumberAt s at (record { value = value; end = end }))
-    (inside : at ≤ length s) where
+module _ {s : List ℕ} {at : ℕ} {n : Number} (number : NumberAt s at n) (inside : at ≤ length s) where
   -- the place after the number is behind its digits
-  number_end : end ≡ at + length (leading_digits (drop at s))
+  number_end : n.end ≡ at + length (leading_digits (drop at s))
   unfolding after_number
   number_end =
-      let lengths : length s - end ≡ length s - at - length (leading_digits (drop at s)) =
-      sym (length-drop end s) ∙ ap length number.after ∙ length-drop (length (leading_digits (drop at s))) (drop at s)
-      ∙ ap (λ (n : ℕ). n - length (leading_digits (drop at s))) (length-drop at s) in
+      let lengths : length s - n.end ≡ length s - at - length (leading_digits (drop at s)) =
+      sym (length-drop n.end s) ∙ ap length number.after ∙ length-drop (length (leading_digits (drop at s))) (drop at s)
+      ∙ ap (λ (k : ℕ). k - length (leading_digits (drop at s))) (length-drop at s) in
       omega (arith, number.within inside, leading_short (drop at s), length-drop at s)
 
   -- a place behind which a digit stands is within the bytes
-  pub begins_inside : (end ≡ at → ⊥) → at < length s
+  pub begins_inside : (n.end ≡ at → ⊥) → at < length s
   begins_inside h = omega (arith, h, number_end, leading_short (drop at s), length-drop at s)
 
   -- the first digit stands at the place
-  begins_at : (end ≡ at → ⊥) → get_or (leading_digits (drop at s)) 0 0 ≡ get_or s at 0
+  begins_at : (n.end ≡ at → ⊥) → get_or (leading_digits (drop at s)) 0 0 ≡ get_or s at 0
   begins_at h =
       leading_head (drop at s) (omega (arith, h, number_end))
       ∙ get_or-drop at s 0 0
       ∙ ap (λ (i : ℕ). get_or s i 0) (add-zero at)
 
   -- nothing is read where nothing is found
-  unread : read_number (drop at s) ≡ none → NumberPart s at Unread
-  unread e = record { read = sym (ap (worths (λ n. done (pos n))) e); ends = tt }
+  unread : read_number (drop at s) ≡ none → NumberPart s at None
+  unread e = record { read = sym (ap (worths (λ k. k)) e); ends = tt }
 
   -- no digit
-  pub unread_empty : end ≡ at → NumberPart s at Unread
+  pub unread_empty : n.end ≡ at → NumberPart s at None
   unread_empty h = unread (unlike_none (drop at s) (λ e. empty (ap length e)))
     where
       empty : length (leading_digits (drop at s)) ≡ length (decimal (leading_number (drop at s))) → ⊥
       empty e = omega (arith, number_end, one_digit (leading_number (drop at s)))
 
   -- a number above the greatest
-  pub unread_large : most_number < value → NumberPart s at Unread
+  pub unread_large : most_number < n.value → NumberPart s at None
   unread_large h = unread (large_none (drop at s) (omega (arith, number.value)))
 
   -- a 0 before other digits
-  pub unread_zero : (end ≡ at → ⊥) → get_or s at 0 ≡ 48 → (end ≡ at + 1 → ⊥) → NumberPart s at Unread
-  unread_zero h z n =
+  pub unread_zero : (n.end ≡ at → ⊥) → get_or s at 0 ≡ 48 → (n.end ≡ at + 1 → ⊥) → NumberPart s at None
+  unread_zero h z more =
       let bs : List ℕ = drop at s in
-      let longer : length (leading_digits bs) ≡ 1 → ⊥ = λ e. n (omega (arith, number_end)) in
+      let longer : length (leading_digits bs) ≡ 1 → ⊥ = λ e. more (omega (arith, number_end)) in
       unread (unlike_none bs (zero_goes_on (leading_number bs) (leading_digits bs) (begins_at h ∙ z) longer))
 
   -- else the number is read
-  pub read_number_lem : (end ≡ at → ⊥) → value ≤ most_number → (get_or s at 0 ≡ 48 → end ≡ at + 1)
-      → NumberPart s at (Read (Number (to_z w64 value)) end)
+  pub read_number_lem : (n.end ≡ at → ⊥) → n.value ≤ most_number → (get_or s at 0 ≡ 48 → n.end ≡ at + 1)
+      → NumberPart s at (Some (n.value, n.end))
   unfolding leading_number
   read_number_lem h small plain =
       let bs : List ℕ = drop at s in
@@ -237,14 +231,7 @@ module _ {s : List ℕ} {at value end : ℕ} (number : NumberAt s at (record { v
       (λ e. omega (arith, number_end, plain (sym (begins_at h) ∙ e))) (omega (arith, number.value)) in
       let got : read_number bs ≡ found (leading_number bs) (after_number bs) =
       plain_found bs spelt (omega (arith, number.value)) in
-      let worth : to_z w64 value ≡ pos value = to_z_pos w64 (omega arith) in
       record {
-        read =
-            ap₂ (λ (z : ℤ) (l : List ℕ). found (done z) l) (worth ∙ ap pos number.value) number.after
-            ∙ sym (ap (worths (λ n. done (pos n))) got);
-        ends = (
-          omega (arith, h, number_end),
-          number.within inside,
-          subst bounded (sym worth) (omega arith),
-        );
+        read = ap₂ found number.value number.after ∙ sym (ap (worths (λ k. k)) got);
+        ends = (omega (arith, h, number_end), number.within inside);
       }

@@ -3,9 +3,10 @@
 use mathlib.Core.Path.{◌≡◌, refl}
 use mathlib.Core.List.{List}
 use Prim.Native.Nat.{ℕ}
+use lib.IntN.{ℤ}
 use lib.ListN.{drop}
-use Rattle.formula.specs.declared.steps.Worth.{Worth}
-use Rattle.formula.specs.declared.reader.Part.TheVariants.{Read, Unread}
+use Rattle.std.specs.Prelude.{Some, None}
+use Rattle.outcome.specs.Result.{Result}
 use Rattle.formula.specs.Grammar.{
   Sum,
   only,
@@ -34,24 +35,24 @@ module _ (volts pairs : ℕ) (s : List ℕ) (at : ℕ) where
   unfolding product_value
   scales p b a = refl
 
-  abbrev pub ProductSoFar : Worth → ℕ → Type 0
+  abbrev pub ProductSoFar : Result ℤ → ℕ → Type 0
   ProductSoFar =
-      SoFar is_multiplicative scale_by (read_atom pairs) (λ p. product_value p volts) (λ a. atom_value a volts)
-      (λ b. scaled (multiplicative b)) scales s (read_product pairs (drop at s))
+      SoFar is_multiplicative multiplicative scale_by (read_atom pairs) (λ p. product_value p volts)
+      (λ a. atom_value a volts) scaled scales s (read_product pairs (drop at s))
 
-  pub product_started : {w : Worth} {end : ℕ} → AtomAt volts pairs s at (Read w end) → ProductSoFar w end
+  pub product_started : {w : Result ℤ} {end : ℕ} → AtomAt volts pairs s at (Some (w, end)) → ProductSoFar w end
   unfolding product_with product_value
   product_started part =
-      started is_multiplicative scale_by (read_atom pairs) (λ p. product_value p volts) (λ a. atom_value a volts)
-      (λ b. scaled (multiplicative b)) scales single (λ a. refl) s (drop at s) at part
+      started is_multiplicative multiplicative scale_by (read_atom pairs) (λ p. product_value p volts) (λ a. atom_value a volts)
+      scaled scales single (λ a. refl) s (drop at s) at part
 
-  pub product_unstarted : AtomAt volts pairs s at Unread → ProductAt volts pairs s at Unread
+  pub product_unstarted : AtomAt volts pairs s at None → ProductAt volts pairs s at None
   unfolding product_with
   product_unstarted part =
       record {
         read =
-            unstarted is_multiplicative scale_by (read_atom pairs) (λ p. product_value p volts) (λ a. atom_value a volts)
-            (λ b. scaled (multiplicative b)) scales single s (drop at s) at part;
+            unstarted is_multiplicative multiplicative scale_by (read_atom pairs) (λ p. product_value p volts) (λ a. atom_value a volts)
+            scaled scales single s (drop at s) at part;
         ends = tt;
       }
 
@@ -62,23 +63,23 @@ module _ (volts pairs : ℕ) (s : List ℕ) (at : ℕ) where
   unfolding sum_value
   adds x b p = refl
 
-  abbrev pub SumSoFar : Worth → ℕ → Type 0
+  abbrev pub SumSoFar : Result ℤ → ℕ → Type 0
   SumSoFar =
-      SoFar is_additive add_by (read_product pairs) (λ x. sum_value x volts) (λ p. product_value p volts)
-      (λ b. summed (additive b)) adds s (read_sum pairs (drop at s))
+      SoFar is_additive additive add_by (read_product pairs) (λ x. sum_value x volts) (λ p. product_value p volts)
+      summed adds s (read_sum pairs (drop at s))
 
-  pub sum_started : {w : Worth} {end : ℕ} → ProductAt volts pairs s at (Read w end) → SumSoFar w end
+  pub sum_started : {w : Result ℤ} {end : ℕ} → ProductAt volts pairs s at (Some (w, end)) → SumSoFar w end
   unfolding sum_with sum_value
   sum_started part =
-      started is_additive add_by (read_product pairs) (λ x. sum_value x volts) (λ p. product_value p volts)
-      (λ b. summed (additive b)) adds only (λ p. refl) s (drop at s) at part
+      started is_additive additive add_by (read_product pairs) (λ x. sum_value x volts) (λ p. product_value p volts)
+      summed adds only (λ p. refl) s (drop at s) at part
 
-  pub sum_unstarted : ProductAt volts pairs s at Unread → SumAt volts pairs s at Unread
+  pub sum_unstarted : ProductAt volts pairs s at None → SumAt volts pairs s at None
   unfolding sum_with
   sum_unstarted part =
       record {
         read =
-            unstarted is_additive add_by (read_product pairs) (λ x. sum_value x volts) (λ p. product_value p volts)
-            (λ b. summed (additive b)) adds only s (drop at s) at part;
+            unstarted is_additive additive add_by (read_product pairs) (λ x. sum_value x volts) (λ p. product_value p volts)
+            summed adds only s (drop at s) at part;
         ends = tt;
       }

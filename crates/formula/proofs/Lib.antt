@@ -1,4 +1,3 @@
-pub mod StepLaws
 pub mod DigitLaws
 pub mod ReaderLaws
 pub mod LevelLaws

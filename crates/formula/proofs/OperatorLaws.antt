@@ -9,11 +9,11 @@ use Rattle.outcome.specs.Answer.{pick}
 use Rattle.decimal.specs.Decimal.{is_digit}
 use Rattle.formula.specs.Grammar.{
   Additive,
-  plus,
-  minus,
+  Plus,
+  Minus,
   Multiplicative,
-  times,
-  over,
+  Times,
+  Over,
   dash,
   additive_byte,
   multiplicative_byte,
@@ -27,28 +27,28 @@ use Rattle.formula.specs.Grammar.{
 
 -- the operator of an operator's byte is that operator
 pub of_additive : (o : Additive) → additive (additive_byte o) ≡ o
-of_additive plus = refl
-of_additive minus = refl
+of_additive Plus = refl
+of_additive Minus = refl
 
 -- its byte is a byte of its level
 pub is_additive_lem : (o : Additive) → is_additive (additive_byte o) ≡ true
-is_additive_lem plus = refl
-is_additive_lem minus = refl
+is_additive_lem Plus = refl
+is_additive_lem Minus = refl
 
 -- and neither a digit nor of the other level
 pub additive_digit : (o : Additive) → is_digit (additive_byte o) ≡ false
-additive_digit plus = refl
-additive_digit minus = refl
+additive_digit Plus = refl
+additive_digit Minus = refl
 
 pub additive_other : (o : Additive) → is_multiplicative (additive_byte o) ≡ false
-additive_other plus = refl
-additive_other minus = refl
+additive_other Plus = refl
+additive_other Minus = refl
 
 -- a byte of the level is the byte of its operator
 pub byte_additive : (b : ℕ) → is_additive b ≡ true → additive_byte (additive b) ≡ b
 byte_additive b = by_tests (eqb b 43) (eqb b dash) refl refl
   where
-    by_tests : (t u : Bool) → eqb b 43 ≡ t → eqb b dash ≡ u → (t || u) ≡ true → additive_byte (pick t plus minus) ≡ b
+    by_tests : (t u : Bool) → eqb b 43 ≡ t → eqb b dash ≡ u → (t || u) ≡ true → additive_byte (pick t Plus Minus) ≡ b
     by_tests true u e f h = sym (eqb-true b 43 e)
     by_tests false true e f h = sym (eqb-true b dash f)
     by_tests false false e f h = absurd (false≢true h)
@@ -56,21 +56,21 @@ byte_additive b = by_tests (eqb b 43) (eqb b dash) refl refl
 -- ---- `*` and `/`, alike
 
 pub of_multiplicative : (o : Multiplicative) → multiplicative (multiplicative_byte o) ≡ o
-of_multiplicative times = refl
-of_multiplicative over = refl
+of_multiplicative Times = refl
+of_multiplicative Over = refl
 
 pub is_multiplicative_lem : (o : Multiplicative) → is_multiplicative (multiplicative_byte o) ≡ true
-is_multiplicative_lem times = refl
-is_multiplicative_lem over = refl
+is_multiplicative_lem Times = refl
+is_multiplicative_lem Over = refl
 
 pub multiplicative_digit : (o : Multiplicative) → is_digit (multiplicative_byte o) ≡ false
-multiplicative_digit times = refl
-multiplicative_digit over = refl
+multiplicative_digit Times = refl
+multiplicative_digit Over = refl
 
 pub byte_multiplicative : (b : ℕ) → is_multiplicative b ≡ true → multiplicative_byte (multiplicative b) ≡ b
 byte_multiplicative b = by_tests (eqb b 42) (eqb b 47) refl refl
   where
-    by_tests : (t u : Bool) → eqb b 42 ≡ t → eqb b 47 ≡ u → (t || u) ≡ true → multiplicative_byte (pick t times over) ≡ b
+    by_tests : (t u : Bool) → eqb b 42 ≡ t → eqb b 47 ≡ u → (t || u) ≡ true → multiplicative_byte (pick t Times Over) ≡ b
     by_tests true u e f h = sym (eqb-true b 42 e)
     by_tests false true e f h = sym (eqb-true b 47 f)
     by_tests false false e f h = absurd (false≢true h)

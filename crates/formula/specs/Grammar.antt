@@ -4,18 +4,14 @@
 use Rattle.std.specs.Prelude.{Bool, ◌||◌, List, [], ◌∷◌, ◌++◌, ℕ, zero, suc, ◌≤◌, ◌≡◌, eqb, leb, length, ℤ, pos, neg_ℤ, nat_abs, ◌+ℤ◌, ◌-ℤ◌, ◌*ℤ◌}
 use Rattle.std.specs.Int.Signed.{quot_z}
 use Rattle.outcome.specs.Answer.{bad_step, pick}
-use Rattle.outcome.specs.Result.{Result, done, refused}
+use Rattle.outcome.specs.Result.{Result, Ok, Err}
 use Rattle.decimal.specs.Decimal.{decimal}
+pub use Rattle.formula.specs.declared.operator.Additive.{Additive}
+pub use Rattle.formula.specs.declared.operator.Additive.TheVariants.{Plus, Minus}
+pub use Rattle.formula.specs.declared.operator.Multiplicative.{Multiplicative}
+pub use Rattle.formula.specs.declared.operator.Multiplicative.TheVariants.{Times, Over}
 
 -- ---- parse trees
-
-pub data Additive : Type 0 where
-  plus : Additive
-  minus : Additive
-
-pub data Multiplicative : Type 0 where
-  times : Multiplicative
-  over : Multiplicative
 
 -- a sum is a product, or a sum, an operator and a product; a product is an atom, or a product, an operator and an atom; an atom
 -- is a number, N for the nominal volts, or a whole sum in parentheses
@@ -54,13 +50,13 @@ dash = 45
 
 -- `+` and `-`
 abbrev pub additive_byte : Additive → ℕ
-additive_byte plus = 43
-additive_byte minus = dash
+additive_byte Plus = 43
+additive_byte Minus = dash
 
 -- `*` and `/`
 abbrev pub multiplicative_byte : Multiplicative → ℕ
-multiplicative_byte times = 42
-multiplicative_byte over = 47
+multiplicative_byte Times = 42
+multiplicative_byte Over = 47
 
 unfoldable mutual
   pub sum_text : Sum → List ℕ
@@ -134,22 +130,22 @@ abbrev pub in_range : ℤ → Bool
 in_range z = leb (nat_abs z) most_step
 
 abbrev pub step : ℤ → Result ℤ
-step z = pick (in_range z) (done z) (refused bad_step)
+step z = pick (in_range z) (Ok z) (Err bad_step)
 
 -- one step; a quotient drops the remainder towards zero, and has no zero divisor
 abbrev pub sum_step : Additive → ℤ → ℤ → Result ℤ
-sum_step plus a b = step (a +ℤ b)
-sum_step minus a b = step (a -ℤ b)
+sum_step Plus a b = step (a +ℤ b)
+sum_step Minus a b = step (a -ℤ b)
 
 abbrev pub product_step : Multiplicative → ℤ → ℤ → Result ℤ
-product_step times a b = step (a *ℤ b)
-product_step over a b = pick (eqb (nat_abs b) 0) (refused bad_step) (step (quot_z a b))
+product_step Times a b = step (a *ℤ b)
+product_step Over a b = pick (eqb (nat_abs b) 0) (Err bad_step) (step (quot_z a b))
 
 -- a step is taken where both sides have a number
 abbrev pub both : (ℤ → ℤ → Result ℤ) → Result ℤ → Result ℤ → Result ℤ
-both f (done a) (done b) = f a b
-both f (done a) (refused r) = refused bad_step
-both f (refused r) right = refused bad_step
+both f (Ok a) (Ok b) = f a b
+both f (Ok a) (Err r) = Err bad_step
+both f (Err r) right = Err bad_step
 
 abbrev pub summed : Additive → Result ℤ → Result ℤ → Result ℤ
 summed o = both (sum_step o)
@@ -168,13 +164,13 @@ unfoldable mutual
   product_value (scale p o a) volts = scaled o (product_value p volts) (atom_value a volts)
 
   pub atom_value : Atom → ℕ → Result ℤ
-  atom_value (number n) volts = done (pos n)
-  atom_value nominal volts = done (pos volts)
+  atom_value (number n) volts = Ok (pos n)
+  atom_value nominal volts = Ok (pos volts)
   atom_value (group s) volts = sum_value s volts
 
 abbrev pub formula_value : Formula → ℕ → Result ℤ
 formula_value (sum s) volts = sum_value s volts
-formula_value (negative n) volts = done (neg_ℤ (pos n))
+formula_value (negative n) volts = Ok (neg_ℤ (pos n))
 
 -- ---- operators by their byte
 
@@ -186,7 +182,7 @@ is_multiplicative b = eqb b 42 || eqb b 47
 
 -- the operator of a byte that is one
 abbrev pub additive : ℕ → Additive
-additive b = pick (eqb b 43) plus minus
+additive b = pick (eqb b 43) Plus Minus
 
 abbrev pub multiplicative : ℕ → Multiplicative
-multiplicative b = pick (eqb b 42) times over
+multiplicative b = pick (eqb b 42) Times Over

@@ -3,7 +3,7 @@
 -- Assumes nothing.
 use Rattle.std.specs.Prelude.{Bool, ◌&&◌, List, [], ◌∷◌, ℕ, zero, suc, eqb, leb, length, ℤ}
 use Rattle.outcome.specs.Answer.{bad_formula, pick}
-use Rattle.outcome.specs.Result.{Result, done, refused}
+use Rattle.outcome.specs.Result.{Result, Ok, Err}
 use Rattle.outcome.specs.Lists.{same}
 use Rattle.decimal.specs.Decimal.{decimal, leading_digits, leading_number, after_number}
 use Rattle.formula.specs.Grammar.{
@@ -100,28 +100,28 @@ read_sum pairs = sum_with (read_product pairs)
 
 -- nothing follows
 abbrev pub whole_sum : Front Sum → Result Formula
-whole_sum (found s []) = done (sum s)
-whole_sum (found s (b ∷ bytes)) = refused bad_formula
-whole_sum none = refused bad_formula
+whole_sum (found s []) = Ok (sum s)
+whole_sum (found s (b ∷ bytes)) = Err bad_formula
+whole_sum none = Err bad_formula
 
 abbrev pub whole_negative : Front ℕ → Result Formula
-whole_negative (found n []) = pick (eqb n 0) (refused bad_formula) (done (negative n))
-whole_negative (found n (b ∷ bytes)) = refused bad_formula
-whole_negative none = refused bad_formula
+whole_negative (found n []) = pick (eqb n 0) (Err bad_formula) (Ok (negative n))
+whole_negative (found n (b ∷ bytes)) = Err bad_formula
+whole_negative none = Err bad_formula
 
 -- a field that begins with a minus is a negative number, any other a sum
 unfoldable pub read_short : List ℕ → Result Formula
-read_short [] = refused bad_formula
+read_short [] = Err bad_formula
 read_short (b ∷ bytes) =
     pick (eqb b dash) (whole_negative (read_number bytes)) (whole_sum (read_sum deepest (b ∷ bytes)))
 
 unfoldable pub read_formula : List ℕ → Result Formula
-read_formula field = pick (leb (length field) longest_formula) (read_short field) (refused bad_formula)
+read_formula field = pick (leb (length field) longest_formula) (read_short field) (Err bad_formula)
 
 -- what a field is worth at these nominal volts
 abbrev pub value_in : ℕ → Result Formula → Result ℤ
-value_in volts (done f) = formula_value f volts
-value_in volts (refused r) = refused r
+value_in volts (Ok f) = formula_value f volts
+value_in volts (Err r) = Err r
 
 unfoldable pub value_of : ℕ → List ℕ → Result ℤ
 value_of volts field = value_in volts (read_formula field)

@@ -1,7 +1,7 @@
 -- What reading owes to the grammar (document 02, M-107). The proofs stand in proofs/Theorems.antt.
 -- Assumes nothing.
 use Rattle.std.specs.Prelude.{◌≡◌, List, ℕ, ℤ}
-use Rattle.outcome.specs.Result.{Result, done}
+use Rattle.outcome.specs.Result.{Result, Ok}
 use Rattle.formula.specs.Grammar.{Formula, Derived}
 use Rattle.formula.specs.Reader.{read_formula, value_of}
 use Rattle.formula.specs.Meaning.{Means}
@@ -10,7 +10,7 @@ use Rattle.formula.specs.Meaning.{Means}
 abbrev pub ReadsDerived : Type 0
 ReadsDerived =
     (field : List ℕ) (f : Formula)
-    → (Derived field f → read_formula field ≡ done f) × (read_formula field ≡ done f → Derived field f)
+    → (Derived field f → read_formula field ≡ Ok f) × (read_formula field ≡ Ok f → Derived field f)
 
 -- each field has one reading
 abbrev pub OneReading : Type 0

@@ -1,16 +1,18 @@
 // Limits written as formulas: read by the grammar, and worked out in the same pass.
 #![tactic(auto)]
 
+mod amount;
+mod operator;
 mod reader;
 mod steps;
+pub mod volts;
 
-ghost use Rattle.std.specs.Prelude.{◌≤◌, length};
-ghost use Rattle.formula.specs.Grammar.{most_volts};
 ghost use Rattle.formula.specs.InnerReader.{NegativeOf, SumOf};
 ghost use Rattle.formula.specs.Meaning.{Evaluates};
 
-use reader::{Part, number_at, sum};
-use steps::Worth;
+use outcome::Refusal;
+use reader::{Reader, number_at};
+pub use volts::Volts;
 
 // The greatest length of a formula.
 pub const LONGEST_FORMULA: usize = 64;
@@ -18,64 +20,42 @@ pub const LONGEST_FORMULA: usize = 64;
 // How many pairs of parentheses may stand around each other.
 pub const DEEPEST: usize = 8;
 
-// A field is worth this number; or it is no formula; or a step of it cannot be taken.
-#[derive(Clone, Copy)]
-pub enum Evaluated {
-    Value(i64),
-    BadFormula,
-    BadStep,
-}
-
-// A plain negative number: a minus at place 0, and a number that is not 0.
-fn negative(field: &[u8]) -> Evaluated
-    requires { 1 ≤ length field.now }
-    ensures { NegativeOf field.now result }
+// The negative of a number that is not 0, whose digits are these.
+fn negative(digits: &[u8]) -> Result<i64, Refusal>
+    ensures { NegativeOf digits.now result }
 {
-    let Part::Read { worth, end } = number_at(field, 1) else {
-        return Evaluated::BadFormula;
-    };
-    if end != field.len() {
-        return Evaluated::BadFormula;
+    let number = number_at(digits, 0).ok_or(Refusal::BadFormula)?;
+    if number.end != digits.len() {
+        return Err(Refusal::BadFormula);
     }
-    let Worth::Number(n) = worth else {
-        return Evaluated::BadFormula;
-    };
-    if n == 0 {
-        return Evaluated::BadFormula;
+    if number.value == 0 {
+        return Err(Refusal::BadFormula);
     }
-    Evaluated::Value(0 - n)
+    Ok(-i64::from(number.value))
 }
 
 // A sum that is the whole field.
-fn whole_sum(field: &[u8], volts: u32) -> Evaluated
-    requires { volts ≤ most_volts }
-    ensures { SumOf volts field.now result }
+fn whole_sum(field: &[u8], volts: Volts) -> Result<i64, Refusal>
+    ensures { SumOf volts.volts field.now result }
 {
-    let Part::Read { worth, end } = sum(field, 0, DEEPEST, volts) else {
-        return Evaluated::BadFormula;
-    };
-    if end != field.len() {
-        return Evaluated::BadFormula;
+    let reader = Reader { text: field, volts };
+    let sum = reader.sum(0, DEEPEST).ok_or(Refusal::BadFormula)?;
+    if sum.end != field.len() {
+        return Err(Refusal::BadFormula);
     }
-    match worth {
-        Worth::Number(n) => Evaluated::Value(n),
-        Worth::Fault => Evaluated::BadStep,
-    }
+    let worth = sum.worth.ok_or(Refusal::BadStep)?;
+    Ok(worth.value)
 }
 
 // What a field is worth at these nominal volts.
-pub fn evaluate(field: &[u8], volts: u32) -> Evaluated
-    requires { volts ≤ most_volts }
-    ensures { Evaluates volts field.now result }
+pub fn evaluate(field: &[u8], volts: Volts) -> Result<i64, Refusal>
+    ensures { Evaluates volts.volts field.now result }
 {
     if field.len() > LONGEST_FORMULA {
-        return Evaluated::BadFormula;
+        return Err(Refusal::BadFormula);
     }
-    if field.len() == 0 {
-        return Evaluated::BadFormula;
-    }
-    if field[0] == b'-' {
-        return negative(field);
+    if let Some(digits) = field.strip_prefix(b"-") {
+        return negative(digits);
     }
     whole_sum(field, volts)
 }

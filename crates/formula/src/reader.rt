@@ -1,158 +1,108 @@
 // The readers of sum, product and atom, which call each other in a cycle: each pair of parentheses holds a whole
 // formula again. What is not yet read gets shorter from call to call.
-ghost use Rattle.std.specs.Prelude.{◌≡◌, ◌≤◌, length};
-ghost use Rattle.formula.specs.Grammar.{most_volts, is_additive, is_multiplicative};
-ghost use Rattle.formula.specs.InnerReader.{SumAt, ProductAt, AtomAt, NumberPart};
+ghost use Rattle.std.specs.Prelude.{◌≤◌, length, IfSome};
+ghost use Rattle.formula.specs.Grammar.{most_number};
+ghost use Rattle.formula.specs.InnerReader.{part_of, number_of, SumAt, ProductAt, AtomAt, NumberPart};
 
-use super::steps::{Worth, add, scale};
-use decimal::read_decimal;
+use super::amount::Amount;
+use super::operator::{additive_at, multiplicative_at};
+use super::steps::{add, scale};
+use super::volts::Volts;
+use decimal::{Number, read_decimal};
 
 // The greatest number in a formula.
 pub const MOST_NUMBER: u32 = 1000000;
 
-// A part was read, is worth this and ends before this place; or none stands there.
+// A part that was read: what it is worth, if its steps can be taken, and the place behind it.
 #[derive(Clone, Copy)]
-pub enum Part {
-    Read { worth: Worth, end: usize },
-    Unread,
-}
-
-// + or -.
-fn is_additive(b: u8) -> bool
-    ensures { result ≡ is_additive b }
-{
-    b == b'+' || b == b'-'
-}
-
-// * or /.
-fn is_multiplicative(b: u8) -> bool
-    ensures { result ≡ is_multiplicative b }
-{
-    b == b'*' || b == b'/'
+pub struct Part {
+    pub worth: Option<Amount>,
+    pub end: usize,
 }
 
 // A number without leading zeros, at most the greatest.
-pub fn number_at(s: &[u8], at: usize) -> Part
+pub fn number_at(s: &[u8], at: usize) -> Option<Number>
     requires { at ≤ length s.now }
-    ensures { NumberPart s.now at result }
+    ensures part { NumberPart s.now at (number_of result) }
+    ensures small { IfSome result (λ n. n.value ≤ most_number) }
 {
     let number = read_decimal(s, at);
-    let end = number.end;
-    let value = number.value;
-    if end == at {
-        return Part::Unread;
+    if number.end == at {
+        return None;
     }
-    if value > MOST_NUMBER {
-        return Part::Unread;
+    if number.value > MOST_NUMBER {
+        return None;
     }
-    if s[at] == b'0' {
-        if end != at + 1 {
-            return Part::Unread;
+    if s[at] == b'0' && number.end != at + 1 {
+        return None;
+    }
+    Some(number)
+}
+
+// What the three readers read, and the volts that N stands for.
+#[derive(Clone, Copy)]
+pub struct Reader<'a> {
+    pub text: &'a [u8],
+    pub volts: Volts,
+}
+
+impl Reader<'_> {
+    // A number, N, or a sum in parentheses, of which `depth` pairs may still open.
+    #[cycle(atom_product_sum)]
+    fn atom(&self, at: usize, depth: usize) -> Option<Part>
+        ensures { AtomAt self.now.volts.volts depth self.now.text.now at (part_of result) }
+    {
+        let first = *self.text.get(at)?;
+        if first == b'N' {
+            let worth = Some(Amount::of(self.volts.volts));
+            return Some(Part { worth, end: at + 1 });
         }
+        if first != b'(' {
+            let number = number_at(self.text, at)?;
+            return Some(Part {
+                worth: Some(Amount::of(number.value)),
+                end: number.end,
+            });
+        }
+        let Part { worth, end } = self.sum(at + 1, depth.checked_sub(1)?)?;
+        if *self.text.get(end)? != b')' {
+            return None;
+        }
+        Some(Part {
+            worth,
+            end: end + 1,
+        })
     }
-    Part::Read {
-        worth: Worth::Number(value as i64),
-        end: end,
-    }
-}
 
-// A number, N, or a sum in parentheses, of which `depth` pairs may still open.
-#[cycle(atom_product_sum)]
-fn atom(s: &[u8], at: usize, depth: usize, volts: u32) -> Part
-    requires at_in_bounds { at ≤ length s.now }
-    requires volts_le_most_volts { volts ≤ most_volts }
-    ensures { AtomAt volts depth s.now at result }
-{
-    if at == s.len() {
-        return Part::Unread;
-    }
-    if s[at] == b'N' {
-        return Part::Read {
-            worth: Worth::Number(volts as i64),
-            end: at + 1,
-        };
-    }
-    if s[at] != b'(' {
-        return number_at(s, at);
-    }
-    if depth == 0 {
-        return Part::Unread;
-    }
-    let Part::Read { worth, end } = sum(s, at + 1, depth - 1, volts) else {
-        return Part::Unread;
-    };
-    if end == s.len() {
-        return Part::Unread;
-    }
-    if s[end] != b')' {
-        return Part::Unread;
-    }
-    Part::Read {
-        worth: worth,
-        end: end + 1,
-    }
-}
-
-// Atoms with * and / between them, from left to right.
-#[cycle(atom_product_sum)]
-fn product(s: &[u8], at: usize, depth: usize, volts: u32) -> Part
-    requires at_in_bounds { at ≤ length s.now }
-    requires volts_le_most_volts { volts ≤ most_volts }
-    ensures { ProductAt volts depth s.now at result }
-{
-    let Part::Read { worth, end } = atom(s, at, depth, volts) else {
-        return Part::Unread;
-    };
-    let mut total = worth;
-    let mut next = end;
-    while next < s.len() {
-        let op = s[next];
-        if !is_multiplicative(op) {
-            return Part::Read {
-                worth: total,
-                end: next,
+    // Atoms with * and / between them, from left to right. No `for` fits: how far a turn goes, the atom says.
+    #[cycle(atom_product_sum)]
+    fn product(&self, at: usize, depth: usize) -> Option<Part>
+        ensures { ProductAt self.now.volts.volts depth self.now.text.now at (part_of result) }
+    {
+        let mut total = self.atom(at, depth)?;
+        while let Some(op) = multiplicative_at(self.text, total.end) {
+            let next = self.atom(total.end + 1, depth)?;
+            total = Part {
+                worth: scale(op, total.worth, next.worth),
+                end: next.end,
             };
         }
-        let Part::Read { worth, end } = atom(s, next + 1, depth, volts) else {
-            return Part::Unread;
-        };
-        total = scale(op, total, worth);
-        next = end;
+        Some(total)
     }
-    Part::Read {
-        worth: total,
-        end: next,
-    }
-}
 
-// Products with + and - between them, from left to right.
-#[cycle(atom_product_sum)]
-pub fn sum(s: &[u8], at: usize, depth: usize, volts: u32) -> Part
-    requires at_in_bounds { at ≤ length s.now }
-    requires volts_le_most_volts { volts ≤ most_volts }
-    ensures { SumAt volts depth s.now at result }
-{
-    let Part::Read { worth, end } = product(s, at, depth, volts) else {
-        return Part::Unread;
-    };
-    let mut total = worth;
-    let mut next = end;
-    while next < s.len() {
-        let op = s[next];
-        if !is_additive(op) {
-            return Part::Read {
-                worth: total,
-                end: next,
+    // Products with + and - between them, from left to right.
+    #[cycle(atom_product_sum)]
+    pub fn sum(&self, at: usize, depth: usize) -> Option<Part>
+        ensures { SumAt self.now.volts.volts depth self.now.text.now at (part_of result) }
+    {
+        let mut total = self.product(at, depth)?;
+        while let Some(op) = additive_at(self.text, total.end) {
+            let next = self.product(total.end + 1, depth)?;
+            total = Part {
+                worth: add(op, total.worth, next.worth),
+                end: next.end,
             };
         }
-        let Part::Read { worth, end } = product(s, next + 1, depth, volts) else {
-            return Part::Unread;
-        };
-        total = add(op, total, worth);
-        next = end;
-    }
-    Part::Read {
-        worth: total,
-        end: next,
+        Some(total)
     }
 }

@@ -1,86 +1,55 @@
-// The steps of a formula, in signed numbers. A fault travels on as the worth, so that reading can go on.
+// The steps of a formula, in signed numbers. Where a step cannot be taken there is no amount, and reading goes on without.
 ghost use Rattle.std.specs.Prelude.{◌≡◌};
-ghost use Rattle.formula.specs.Grammar.{additive, multiplicative, in_range, step};
-ghost use Rattle.formula.specs.Grammar.{sum_step, product_step, summed, scaled};
-ghost use Rattle.formula.specs.InnerReader.{worth_of, Bounded, bounded};
+ghost use Rattle.formula.specs.Grammar.{step, sum_step, product_step, summed, scaled};
+ghost use Rattle.formula.specs.InnerReader.{worth_of};
 
-// What a part of a formula is worth; or that a step of it cannot be taken.
-#[derive(Clone, Copy)]
-pub enum Worth {
-    Number(i64),
-    Fault,
-}
+use super::amount::Amount;
+use super::operator::{Additive, Multiplicative};
 
-// Whether a step may have this result.
-fn in_range(z: i64) -> bool
-    ensures { result ≡ in_range z }
+// The greatest result of a step; the least is its negative.
+pub const MOST_STEP: i64 = 2000000000;
+
+// A number that a step has as its result, where it may have it.
+fn within(z: i64) -> Option<Amount>
+    ensures { worth_of result ≡ step z }
 {
-    z >= -2000000000 && z <= 2000000000
-}
-
-// A number that a step has as its result.
-fn within(z: i64) -> Worth
-    ensures { (worth_of result ≡ step z) × Bounded result }
-{
-    if in_range(z) {
-        return Worth::Number(z);
+    if !(-MOST_STEP..=MOST_STEP).contains(&z) {
+        return None;
     }
-    Worth::Fault
+    Some(Amount { value: z })
 }
 
 // a + b or a - b.
-fn sum_step(op: u8, a: i64, b: i64) -> Worth
-    requires bounded { bounded a }
-    requires bounded_2 { bounded b }
-    ensures { (worth_of result ≡ sum_step (additive op) a b) × Bounded result }
+fn sum_step(op: Additive, a: Amount, b: Amount) -> Option<Amount>
+    ensures { worth_of result ≡ sum_step op a.value b.value }
 {
-    if op == b'+' {
-        return within(a + b);
+    match op {
+        Additive::Plus => within(a.value + b.value),
+        Additive::Minus => within(a.value - b.value),
     }
-    within(a - b)
 }
 
 // a * b or a / b, which drops the remainder towards zero.
-fn product_step(op: u8, a: i64, b: i64) -> Worth
-    requires bounded { bounded a }
-    requires bounded_2 { bounded b }
-    ensures { (worth_of result ≡ product_step (multiplicative op) a b) × Bounded result }
+fn product_step(op: Multiplicative, a: Amount, b: Amount) -> Option<Amount>
+    ensures { worth_of result ≡ product_step op a.value b.value }
 {
-    if op == b'*' {
-        return within(a * b);
+    match op {
+        Multiplicative::Times => within(a.value * b.value),
+        Multiplicative::Over if b.value == 0 => None,
+        Multiplicative::Over => within(a.value / b.value),
     }
-    if b == 0 {
-        return Worth::Fault;
-    }
-    within(a / b)
 }
 
-// A sum's next step, or the fault that came before it.
-pub fn add(op: u8, left: Worth, right: Worth) -> Worth
-    requires bounded { Bounded left }
-    requires bounded_2 { Bounded right }
-    ensures { (worth_of result ≡ summed (additive op) (worth_of left) (worth_of right)) × Bounded result }
+// A sum's next step, where both sides have an amount.
+pub fn add(op: Additive, left: Option<Amount>, right: Option<Amount>) -> Option<Amount>
+    ensures { worth_of result ≡ summed op (worth_of left) (worth_of right) }
 {
-    let Worth::Number(a) = left else {
-        return Worth::Fault;
-    };
-    let Worth::Number(b) = right else {
-        return Worth::Fault;
-    };
-    sum_step(op, a, b)
+    sum_step(op, left?, right?)
 }
 
-// A product's next step, or the fault that came before it.
-pub fn scale(op: u8, left: Worth, right: Worth) -> Worth
-    requires bounded { Bounded left }
-    requires bounded_2 { Bounded right }
-    ensures { (worth_of result ≡ scaled (multiplicative op) (worth_of left) (worth_of right)) × Bounded result }
+// A product's next step, where both sides have an amount.
+pub fn scale(op: Multiplicative, left: Option<Amount>, right: Option<Amount>) -> Option<Amount>
+    ensures { worth_of result ≡ scaled op (worth_of left) (worth_of right) }
 {
-    let Worth::Number(a) = left else {
-        return Worth::Fault;
-    };
-    let Worth::Number(b) = right else {
-        return Worth::Fault;
-    };
-    product_step(op, a, b)
+    product_step(op, left?, right?)
 }

@@ -10,7 +10,7 @@ ghost use Rattle.package.specs.Entries.{MakesFromLine, LoadsByStore};
 pub extern "C" fn gridprofile_sample_matrix(block: &[u8], out: &mut [u8]) -> u8
     ensures { SamplesMatrix p block.now out.old result out.new }
 {
-    gridprofile::category1::gridprofile_sample_matrix(block, out)
+    gridprofile::category1::entries().sample_matrix(block, out)
 }
 
 // Exponents: of the key, and e' of a round.
@@ -18,7 +18,7 @@ pub extern "C" fn gridprofile_sample_matrix(block: &[u8], out: &mut [u8]) -> u8
 pub extern "C" fn gridprofile_sample_exponents(block: &[u8], out: &mut [u8]) -> u8
     ensures { SamplesExponents p block.now out.old result out.new }
 {
-    gridprofile::category1::gridprofile_sample_exponents(block, out)
+    gridprofile::category1::entries().sample_exponents(block, out)
 }
 
 // The mask values u' of a round.
@@ -26,7 +26,7 @@ pub extern "C" fn gridprofile_sample_exponents(block: &[u8], out: &mut [u8]) -> 
 pub extern "C" fn gridprofile_sample_mask_values(block: &[u8], out: &mut [u8]) -> u8
     ensures { SamplesMaskValues p block.now out.old result out.new }
 {
-    gridprofile::category1::gridprofile_sample_mask_values(block, out)
+    gridprofile::category1::entries().sample_mask_values(block, out)
 }
 
 // The first challenges β, 1 to 126.
@@ -34,7 +34,7 @@ pub extern "C" fn gridprofile_sample_mask_values(block: &[u8], out: &mut [u8]) -
 pub extern "C" fn gridprofile_sample_first_challenges(block: &[u8], out: &mut [u8]) -> u8
     ensures { SamplesFirstChallenges p block.now out.old result out.new }
 {
-    gridprofile::category1::gridprofile_sample_first_challenges(block, out)
+    gridprofile::category1::entries().sample_first_challenges(block, out)
 }
 
 // The second challenge: 0 or 1 for each round.
@@ -42,7 +42,7 @@ pub extern "C" fn gridprofile_sample_first_challenges(block: &[u8], out: &mut [u
 pub extern "C" fn gridprofile_sample_second_challenge(block: &[u8], out: &mut [u8]) -> u8
     ensures { SamplesSecondChallenge p block.now out.old result out.new }
 {
-    gridprofile::category1::gridprofile_sample_second_challenge(block, out)
+    gridprofile::category1::entries().sample_second_challenge(block, out)
 }
 
 // The public key of a private seed.
@@ -50,7 +50,7 @@ pub extern "C" fn gridprofile_sample_second_challenge(block: &[u8], out: &mut [u
 pub extern "C" fn gridprofile_make_key(private: &[u8], key: &mut [u8]) -> u8
     ensures { MakesKey p private.now key.old result key.new }
 {
-    gridprofile::category1::gridprofile_make_key(private, key)
+    gridprofile::category1::entries().make_key(private, key)
 }
 
 // The signature of a message.
@@ -65,7 +65,7 @@ pub extern "C" fn gridprofile_sign(
     ensures { Signs p private.now master.now salt.now msg.now
         sig.old result sig.new }
 {
-    gridprofile::category1::gridprofile_sign(private, master, salt, msg, sig)
+    gridprofile::category1::entries().sign(private, master, salt, msg, sig)
 }
 
 // Whether a signature is one of the message under the key.
@@ -73,7 +73,7 @@ pub extern "C" fn gridprofile_sign(
 pub extern "C" fn gridprofile_verify(key: &[u8], msg: &[u8], sig: &[u8]) -> u8
     ensures { Verifies p key.now msg.now sig.now result }
 {
-    gridprofile::category1::gridprofile_verify(key, msg, sig)
+    gridprofile::category1::entries().verify(key, msg, sig)
 }
 
 // The round examiner: one round, given its challenges and commitments.
@@ -92,9 +92,7 @@ pub extern "C" fn gridprofile_verify_round(
     ensures { VerifiesRound p key.now salt.now i c0.now c1.now beta
         h.now challenge reply.now result }
 {
-    gridprofile::category1::gridprofile_verify_round(
-        key, salt, i, c0, c1, beta, h, challenge, reply,
-    )
+    gridprofile::category1::entries().verify_round(key, salt, i, c0, c1, beta, h, challenge, reply)
 }
 
 // The package of the profile that a line means, and its length.
@@ -111,9 +109,7 @@ pub extern "C" fn gridprofile_make_package(
     ensures { MakesFromLine p table.now private.now master.now salt.now
         line.now out.old length.old result out.new length.new }
 {
-    gridprofile::category1::gridprofile_make_package(
-        table, private, master, salt, line, out, length,
-    )
+    gridprofile::category1::entries().make_package(table, private, master, salt, line, out, length)
 }
 
 // Stores the profile of a package for a device, where its signature holds.
@@ -129,5 +125,5 @@ pub extern "C" fn gridprofile_load(
     ensures { LoadsByStore p key.now sealed.now country.now class hertz
         store.old result store.new }
 {
-    gridprofile::category1::gridprofile_load(store, key, sealed, country, class, hertz)
+    gridprofile::category1::entries().load(store, key, sealed, country, class, hertz)
 }

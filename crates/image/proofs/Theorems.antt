@@ -4,17 +4,21 @@ use mathlib.Core.Bool.{Bool, true, false, false≢true, ◌&&◌, not}
 use mathlib.Core.List.{List, [], ◌∷◌, map}
 use Prim.Native.Nat.{ℕ, ◌+◌, ◌<◌}
 use native.Mathlib.Omega.{arith}
-use lib.Dec.{eqb, ltb, lit<}
+use lib.Dec.{eqb, ltb}
 use lib.ListN.{get_or, drop}
-use borrow.Author.Tests.{ltb-true, eq-eqb, ne_eqb}
+use borrow.Author.Tests.{ltb-true}
 use Rattle.outcome.specs.Answer.{pick}
 use Rattle.profile.specs.declared.Limit.TheVariants.{Share, Offset, Rate}
-use Rattle.profile.specs.declared.RatePoint.{RatePoint}
-use Rattle.profile.specs.declared.RatePoint.TheVariants.{Absent, Present}
+use Rattle.profile.specs.declared.rules.Kind.{Kind}
+use Rattle.profile.specs.Rules.{RatePoint}
+use Rattle.std.specs.Prelude.{None, Some}
 use Rattle.profile.specs.Rules.{
   share,
   above,
+  plain,
   rate,
+  kind_number,
+  same_kind,
   kind_of,
   size_of,
   Field,
@@ -61,7 +65,7 @@ all_small [] (f ∷ fs) t e = absurd (false≢true e)
 all_small (r ∷ rs) [] t e = tt
 all_small (r ∷ rs) (f ∷ fs) t e =
     let high = ltb-true (top r.ranges) 4294967296 (and_first (ltb (top r.ranges) 4294967296) _ t) in
-    let within = range_bounds r.ranges f.size (and_rest (eqb f.kind r.kind) _ (and_first (fits r f) _ e)) in
+    let within = range_bounds r.ranges f.size (and_rest (same_kind f.kind r.kind) _ (and_first (fits r f) _ e)) in
     let others = all_small rs fs (and_rest (ltb (top r.ranges) 4294967296) _ t) (and_rest (fits r f) _ e) in
     (omega (arith, high, within.2), others)
 
@@ -71,20 +75,20 @@ all_tops_small GP1 = refl
 all_tops_small GP2 = refl
 
 -- the kinds of some fields, and of the fields that some rules ask for
-abbrev kinds : List Field → List ℕ
+abbrev kinds : List Field → List Kind
 kinds fs = map (λ (f : Field). f.kind) fs
 
-abbrev kinds_asked : List Rule → List ℕ
+abbrev kinds_asked : List Rule → List Kind
 kinds_asked rs = map (λ (r : Rule). r.kind) rs
 
 rate_fits : (point : RatePoint) → AllSmall (rate_fields point) → RateFits point
 unfolding AllSmall
-rate_fits Absent s = tt
-rate_fits (Present t) s = (s.0, s.1.0)
+rate_fits None s = tt
+rate_fits (Some t) s = (s.0, s.1.0)
 
 rate_kind : (point : RatePoint) → kinds (rate_fields point) ≡ kinds_asked (rate_rules (kind_for point)) → is_rate_point point ≡ true
-rate_kind Absent e = refl
-rate_kind (Present t) e = eq-eqb (kind_of t.limit) rate (ap (λ (ks : List ℕ). get_or ks 0 0) e)
+rate_kind None e = refl
+rate_kind (Some t) e = ap (λ (ks : List Kind). same_kind (get_or ks 0 plain) rate) e
 
 all_true : (a b c d e : Bool) → a ≡ false → b ≡ false → c ≡ false → d ≡ false → e ≡ true
     → (not a && (not b && (not c && (not d && e)))) ≡ true
@@ -97,10 +101,8 @@ valid_fits table p ok =
     let obeyed = (parts table p ok).fields in
     let s = all_small (rules kind) (fields_of p) (all_tops_small kind) obeyed in
     let asked = same_kinds (rules kind) (fields_of p) obeyed in
-    let no_rate : (i : ℕ) → get_or (kinds_asked (rules kind)) i 0 < rate → eqb (get_or (kinds (fields_of p)) i 0) rate ≡ false =
-    λ i h.
-    let same = ap (λ (ks : List ℕ). get_or ks i 0) asked in
-    ne_eqb (get_or (kinds (fields_of p)) i 0) rate (λ e. omega (arith, h, e, same)) in
+    let same : (i : ℕ) → same_kind (get_or (kinds (fields_of p)) i plain) rate ≡ same_kind (get_or (kinds_asked (rules kind)) i plain) rate =
+    λ i. ap (λ (ks : List Kind). same_kind (get_or ks i plain) rate) asked in
     record {
       serial = s.0;
       volts = s.1.0;
@@ -115,7 +117,7 @@ valid_fits table p ok =
       kinds =
           all_true (is_rate p.over_voltage) (is_rate p.under_voltage) (is_rate p.over_frequency)
           (is_rate p.under_frequency) (is_rate_point p.rate_of_change)
-          (no_rate 3 (lit< tt)) (no_rate 5 (lit< tt)) (no_rate 7 (lit< tt)) (no_rate 9 (lit< tt))
+          (same 3) (same 5) (same 7) (same 9)
           (rate_kind p.rate_of_change (ap (drop 11) asked));
     }
 
@@ -132,7 +134,7 @@ module _ (size : ℕ) where
   size_read true above? = refl
   size_read false above? = refl
 
-  kind_read : (share? above? : Bool) → eqb (kind_of (pick share? (Share size) (Offset (not above?) size))) rate ≡ false
+  kind_read : (share? above? : Bool) → same_kind (kind_of (pick share? (Share size) (Offset (not above?) size))) rate ≡ false
   kind_read true above? = refl
   kind_read false true = refl
   kind_read false false = refl
@@ -141,14 +143,14 @@ trip_kind : (image : List ℕ) (at : ℕ) → is_rate (trip_of image at) ≡ fal
 unfolding trip_of
 trip_kind image at =
     let kind = word_at image at in
-    kind_read (word_at image (at + 4)) (eqb kind share) (eqb kind above)
+    kind_read (word_at image (at + 4)) (eqb kind (kind_number share)) (eqb kind (kind_number above))
 
 rate_read_kind : (image : List ℕ) (at : ℕ) → is_rate_point (rate_of image at) ≡ true
 unfolding rate_of
 rate_read_kind image at = by_presence (eqb (word_at image at) 0)
   where
     by_presence : (absent : Bool)
-        → is_rate_point (pick absent Absent (Present (record { limit = Rate (word_at image (at + 4)); delay = word_at image (at + 8) }))) ≡ true
+        → is_rate_point (pick absent None (Some (record { limit = Rate (word_at image (at + 4)); delay = word_at image (at + 8) }))) ≡ true
     by_presence true = refl
     by_presence false = refl
 
@@ -161,14 +163,14 @@ module _ (image : List ℕ) (bytes : (i : ℕ) → get_or image i 0 < 256) where
   trip_read_fits at =
       let kind = word_at image at in
       let size = word_at image (at + 4) in
-      (rw (size_read size (eqb kind share) (eqb kind above)) (small (at + 4)), small (at + 8))
+      (rw (size_read size (eqb kind (kind_number share)) (eqb kind (kind_number above))) (small (at + 4)), small (at + 8))
 
   rate_read_fits : (at : ℕ) → RateFits (rate_of image at)
   unfolding rate_of
   rate_read_fits at = by_presence (eqb (word_at image at) 0)
     where
       by_presence : (absent : Bool)
-          → RateFits (pick absent Absent (Present (record { limit = Rate (word_at image (at + 4)); delay = word_at image (at + 8) })))
+          → RateFits (pick absent None (Some (record { limit = Rate (word_at image (at + 4)); delay = word_at image (at + 8) })))
       by_presence true = tt
       by_presence false = (small (at + 4), small (at + 8))
 

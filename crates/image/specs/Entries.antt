@@ -5,7 +5,7 @@
 use Rattle.std.specs.Prelude.{List, [], ◌∷◌, ℕ, eqb, length}
 use Rattle.outcome.specs.Answer.{bad_size, Check, ◌unless◌, Answers, AnswersFront}
 use Rattle.profile.specs.declared.Profile.{Profile}
-use Rattle.outcome.specs.Result.{Result, done, refused, refusal_in}
+use Rattle.outcome.specs.Result.{Result, Ok, Err, refusal_in}
 use Rattle.profile.specs.Rules.{Class}
 use Rattle.profile.specs.Table.{table_size, table_of}
 use Rattle.profile.specs.Line.{line_of, read_line, write_checks}
@@ -22,8 +22,8 @@ read_image_checks table line image =
 
 -- the image of what was read, where something was
 abbrev pub image_in : Result Profile → List ℕ
-image_in (done p) = image_of p
-image_in (refused r) = []
+image_in (Ok p) = image_of p
+image_in (Err r) = []
 
 pub record ReadsImage (table line old : List ℕ) (answer : ℕ) (image : List ℕ) : Type 0 where
   pub answers : Answers (read_image_checks table line old) (image_in (read_line (table_of table) line)) old answer image

@@ -9,10 +9,10 @@ use Rattle.words.specs.Words.{word_at, word, Small}
 use Rattle.profile.specs.declared.Limit.{Limit}
 use Rattle.profile.specs.declared.Limit.TheVariants.{Share, Offset, Rate}
 use Rattle.profile.specs.declared.Trip.{Trip}
-use Rattle.profile.specs.declared.RatePoint.{RatePoint}
-use Rattle.profile.specs.declared.RatePoint.TheVariants.{Absent, Present}
+use Rattle.profile.specs.Rules.{RatePoint}
+use Rattle.std.specs.Prelude.{None, Some}
 use Rattle.profile.specs.declared.Profile.{Profile}
-use Rattle.profile.specs.Rules.{share, above, rate, kind_of, size_of}
+use Rattle.profile.specs.Rules.{share, above, rate, kind_number, same_kind, kind_of, size_of}
 
 abbrev pub profile_size : ℕ
 profile_size = 76
@@ -21,7 +21,7 @@ profile_size = 76
 
 -- 0 is a voltage share, 1 a frequency above nominal, anything else one below
 abbrev pub limit_from : ℕ → ℕ → Limit
-limit_from kind size = pick (eqb kind share) (Share size) (Offset (not (eqb kind above)) size)
+limit_from kind size = pick (eqb kind (kind_number share)) (Share size) (Offset (not (eqb kind (kind_number above))) size)
 
 unfoldable pub trip_of : List ℕ → ℕ → Trip
 trip_of image at =
@@ -29,7 +29,7 @@ trip_of image at =
 
 -- 0 is an absent rate point, and then the other numbers are not looked at; anything else is a present one
 abbrev pub rate_from : ℕ → ℕ → ℕ → RatePoint
-rate_from present size delay = pick (eqb present 0) Absent (Present (record { limit = Rate size; delay = delay }))
+rate_from present size delay = pick (eqb present 0) None (Some (record { limit = Rate size; delay = delay }))
 
 unfoldable pub rate_of : List ℕ → ℕ → RatePoint
 rate_of image at = rate_from (word_at image at) (word_at image (at + 4)) (word_at image (at + 8))
@@ -60,20 +60,20 @@ abbrev pub ratings_image : Profile → List ℕ
 ratings_image p = word p.serial ++ (word p.volts ++ word p.hertz)
 
 unfoldable pub trip_image : Trip → List ℕ
-trip_image t = word (kind_of t.limit) ++ (word (size_of t.limit) ++ word t.delay)
+trip_image t = word (kind_number (kind_of t.limit)) ++ (word (size_of t.limit) ++ word t.delay)
 
 -- the numbers of a rate point: all 0 where it is absent
 abbrev pub presence : RatePoint → ℕ
-presence Absent = 0
-presence (Present t) = 1
+presence None = 0
+presence (Some t) = 1
 
 abbrev pub rate_size : RatePoint → ℕ
-rate_size Absent = 0
-rate_size (Present t) = size_of t.limit
+rate_size None = 0
+rate_size (Some t) = size_of t.limit
 
 abbrev pub rate_delay : RatePoint → ℕ
-rate_delay Absent = 0
-rate_delay (Present t) = t.delay
+rate_delay None = 0
+rate_delay (Some t) = t.delay
 
 unfoldable pub rate_image : RatePoint → List ℕ
 rate_image point = word (presence point) ++ (word (rate_size point) ++ word (rate_delay point))
@@ -91,11 +91,11 @@ image_of p = head_image p ++ (ratings_image p ++ trips_image p)
 -- ---- which profiles an image can mean: none of the first four limits is a rate, and that of a rate point is one
 
 abbrev pub is_rate : Trip → Bool
-is_rate t = eqb (kind_of t.limit) rate
+is_rate t = same_kind (kind_of t.limit) rate
 
 abbrev pub is_rate_point : RatePoint → Bool
-is_rate_point Absent = true
-is_rate_point (Present t) = is_rate t
+is_rate_point None = true
+is_rate_point (Some t) = is_rate t
 
 abbrev pub has_image : Profile → Bool
 has_image p =
@@ -110,8 +110,8 @@ abbrev pub TripFits : Trip → Type 0
 TripFits t = Small (size_of t.limit) × Small t.delay
 
 abbrev pub RateFits : RatePoint → Type 0
-RateFits Absent = Unit {0}
-RateFits (Present t) = TripFits t
+RateFits None = Unit {0}
+RateFits (Some t) = TripFits t
 
 abbrev pub TripsFit : Profile → Type 0
 TripsFit p =

@@ -2,7 +2,7 @@
 -- Assumes nothing.
 use Rattle.std.specs.Prelude.{◌≡◌, List, ℕ, ◌<◌, T, get_or}
 use Rattle.profile.specs.declared.Profile.{Profile}
-use Rattle.outcome.specs.Result.{done}
+use Rattle.outcome.specs.Result.{Ok}
 use Rattle.profile.specs.Rules.{Class, valid}
 use Rattle.profile.specs.Line.{line_of, read_line}
 use Rattle.image.specs.Image.{profile_of, image_of, Fits}
@@ -21,5 +21,5 @@ ValidFits = (table : List Class) (p : Profile) → T (valid table p) → Fits p
 
 abbrev pub LineAgain : Type 0
 LineAgain =
-    (table : List Class) (line : List ℕ) (p : Profile) → read_line table line ≡ done p
+    (table : List Class) (line : List ℕ) (p : Profile) → read_line table line ≡ Ok p
     → line_of (profile_of (image_of p)) ≡ line

@@ -4,12 +4,14 @@
 pub mod read;
 pub mod write;
 
+ghost use Rattle.std.specs.Prelude.{ℕ};
+ghost use Rattle.outcome.specs.Result.{number_in, length_in};
 ghost use Rattle.profile.specs.Table.{table_of};
 ghost use Rattle.image.specs.Entries.{ReadsImage, WritesProfileLine, WritesImage};
 
-use outcome::{BAD_PROFILE, BAD_SIZE};
+use outcome::Refusal;
 use profile::table::TABLE_SIZE;
-use profile::{Profile, ReadLine, WriteLine, read_line, write_line};
+use profile::{Profile, read_line, write_line};
 use read::read_profile;
 use write::write_profile;
 
@@ -17,50 +19,32 @@ use write::write_profile;
 pub const PROFILE_SIZE: usize = 76;
 
 // Reads a line into the image of its profile.
-pub fn read_line_image(table: &[u8], line: &[u8], profile: &mut [u8]) -> u8
-    ensures { ReadsImage table.now line.now profile.old result profile.new }
+pub fn read_line_image(table: &[u8], line: &[u8], profile: &mut [u8]) -> Result<(), Refusal>
+    ensures { ReadsImage table.now line.now profile.old (number_in result) profile.new }
 {
-    if table.len() != TABLE_SIZE {
-        return BAD_SIZE;
+    if table.len() != TABLE_SIZE || profile.len() != PROFILE_SIZE {
+        return Err(Refusal::BadSize);
     }
-    if profile.len() != PROFILE_SIZE {
-        return BAD_SIZE;
-    }
-    match read_line(table, line) {
-        ReadLine::Read(p) => {
-            write_profile(p, profile);
-            0
-        }
-        ReadLine::BadSize => BAD_SIZE,
-        ReadLine::BadLine => BAD_PROFILE,
-    }
+    let p = read_line(table, line)?;
+    write_profile(p, profile);
+    Ok(())
 }
 
-// Writes the line of a profile, and its length.
-pub fn write_profile_line(table: &[u8], p: Profile, out: &mut [u8], length: &mut usize) -> u8
-    ensures { WritesProfileLine (table_of table.now) p out.old length.old result
-        out.new length.new }
+// Writes the line of a profile, and returns its length.
+pub fn write_profile_line(table: &[u8], p: Profile, out: &mut [u8]) -> Result<usize, Refusal>
+    ensures { (before : ℕ) → WritesProfileLine (table_of table.now) p out.old before (number_in result)
+        out.new (length_in before result) }
 {
-    match write_line(table, p, out) {
-        WriteLine::Written(n) => {
-            *length = n;
-            0
-        }
-        WriteLine::BadSize => BAD_SIZE,
-        WriteLine::BadProfile => BAD_PROFILE,
-    }
+    write_line(table, p, out)
 }
 
-// Writes the line of the profile that an image means.
-pub fn write_line_image(table: &[u8], profile: &[u8], out: &mut [u8], length: &mut usize) -> u8
-    ensures { WritesImage table.now profile.now out.old length.old result
-        out.new length.new }
+// Writes the line of the profile that an image means, and returns its length.
+pub fn write_line_image(table: &[u8], profile: &[u8], out: &mut [u8]) -> Result<usize, Refusal>
+    ensures { (before : ℕ) → WritesImage table.now profile.now out.old before (number_in result)
+        out.new (length_in before result) }
 {
-    if table.len() != TABLE_SIZE {
-        return BAD_SIZE;
+    if table.len() != TABLE_SIZE || profile.len() != PROFILE_SIZE {
+        return Err(Refusal::BadSize);
     }
-    if profile.len() != PROFILE_SIZE {
-        return BAD_SIZE;
-    }
-    write_profile_line(table, read_profile(profile), out, length)
+    write_profile_line(table, read_profile(profile), out)
 }

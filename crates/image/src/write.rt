@@ -6,50 +6,43 @@ ghost use Rattle.image.specs.Image.{profile_size, head_image, trip_image, rate_i
 ghost use Rattle.image.specs.Image.{is_rate, is_rate_point, has_image, TripFits, RateFits, TripsFit};
 ghost use Rattle.image.specs.Image.{ProfileWritten};
 
-use profile::rules::{RATE, kind_of, size_of};
-use profile::{Profile, RatePoint, Trip};
+use profile::rules::Kind;
+use profile::{Profile, Trip};
 use words::append_words;
 
 // Writes a trip point from place `at`, and returns the place after it. So do the next three.
+#[tactic(auto, unfolding(crate::specs::Image::trip_image))]
 fn append_trip(t: Trip, out: &mut [u8], at: usize) -> usize
     requires { at + 12 ≤ length out.old }
     ensures appended { Appended out.old at (trip_image t) out.new result }
     ensures trip_fits { TripFits t }
 {
-    let limit = t.limit;
-    let kind = kind_of(limit) as u32;
-    append_words(kind, size_of(limit), t.delay, out, at)
+    append_words(t.limit.kind().number(), t.limit.size(), t.delay, out, at)
 }
 
-fn append_rate(point: RatePoint, out: &mut [u8], at: usize) -> usize
+#[tactic(auto, unfolding(crate::specs::Image::rate_image))]
+fn append_rate(point: Option<Trip>, out: &mut [u8], at: usize) -> usize
     requires { at + 12 ≤ length out.old }
     ensures appended { Appended out.old at (rate_image point) out.new result }
     ensures rate_fits { RateFits point }
 {
     match point {
-        RatePoint::Absent => append_words(0, 0, 0, out, at),
-        RatePoint::Present(t) => {
-            let limit = t.limit;
-            append_words(1, size_of(limit), t.delay, out, at)
-        }
+        None => append_words(0, 0, 0, out, at),
+        Some(t) => append_words(1, t.limit.size(), t.delay, out, at),
     }
 }
 
+#[tactic(auto, using(crate::proofs::ImageLaws::trips_stored))]
 fn append_trips(p: Profile, out: &mut [u8], at: usize) -> usize
     requires { at + 60 ≤ length out.old }
     ensures appended { Appended out.old at (trips_image p) out.new result }
     ensures trips_fit { TripsFit p }
 {
-    let over_voltage = p.over_voltage;
-    let second = append_trip(over_voltage, out, at);
-    let under_voltage = p.under_voltage;
-    let third = append_trip(under_voltage, out, second);
-    let over_frequency = p.over_frequency;
-    let fourth = append_trip(over_frequency, out, third);
-    let under_frequency = p.under_frequency;
-    let fifth = append_trip(under_frequency, out, fourth);
-    let rate_of_change = p.rate_of_change;
-    append_rate(rate_of_change, out, fifth)
+    let second = append_trip(p.over_voltage, out, at);
+    let third = append_trip(p.under_voltage, out, second);
+    let fourth = append_trip(p.over_frequency, out, third);
+    let fifth = append_trip(p.under_frequency, out, fourth);
+    append_rate(p.rate_of_change, out, fifth)
 }
 
 // The first byte, country and class.
@@ -57,10 +50,9 @@ fn append_head(p: Profile, out: &mut [u8]) -> usize
     requires { 4 ≤ length out.old }
     ensures { Appended out.old 0 (head_image p) out.new result }
 {
-    let country = p.country;
     out[0] = 1;
-    out[1] = country.first;
-    out[2] = country.second;
+    out[1] = p.country.first;
+    out[2] = p.country.second;
     out[3] = p.class;
     4
 }
@@ -68,16 +60,15 @@ fn append_head(p: Profile, out: &mut [u8]) -> usize
 fn is_rate(t: Trip) -> bool
     ensures { result ≡ is_rate t }
 {
-    let limit = t.limit;
-    kind_of(limit) == RATE
+    t.limit.kind() == Kind::Rate
 }
 
-fn is_rate_point(point: RatePoint) -> bool
+fn is_rate_point(point: Option<Trip>) -> bool
     ensures { result ≡ is_rate_point point }
 {
     match point {
-        RatePoint::Absent => true,
-        RatePoint::Present(t) => is_rate(t),
+        None => true,
+        Some(t) => is_rate(t),
     }
 }
 
@@ -85,24 +76,11 @@ fn is_rate_point(point: RatePoint) -> bool
 pub fn has_image(p: Profile) -> bool
     ensures { result ≡ has_image p }
 {
-    let over_voltage = p.over_voltage;
-    if is_rate(over_voltage) {
-        return false;
-    }
-    let under_voltage = p.under_voltage;
-    if is_rate(under_voltage) {
-        return false;
-    }
-    let over_frequency = p.over_frequency;
-    if is_rate(over_frequency) {
-        return false;
-    }
-    let under_frequency = p.under_frequency;
-    if is_rate(under_frequency) {
-        return false;
-    }
-    let rate_of_change = p.rate_of_change;
-    is_rate_point(rate_of_change)
+    !is_rate(p.over_voltage)
+        && !is_rate(p.under_voltage)
+        && !is_rate(p.over_frequency)
+        && !is_rate(p.under_frequency)
+        && is_rate_point(p.rate_of_change)
 }
 
 pub fn write_profile(p: Profile, out: &mut [u8])

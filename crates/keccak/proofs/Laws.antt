@@ -46,10 +46,11 @@ planes s e e0 e1 e2 e3 e4 =
     ∙ (λ i. plane_of r (e i) 0 ++ plane_of r (e i) 1 ++ plane_of r (e i) 2 ++ plane_of r (e i) 3 ++ plane_of r (e i) 4)
 
 -- one round more
-pub step : (z : List ℕ) (k : ℕ) {s t : List ℕ} {c : ℕ} → s ≡ rounds k z → c ≡ round_constant k
-    → t ≡ xored c (chi (pi (rho (theta s)))) → t ≡ rounds (suc k) z
+pub step : (z : List ℕ) (k m : ℕ) {s t : List ℕ} {c : ℕ} → suc k ≡ m → s ≡ rounds k z → c ≡ round_constant k
+    → t ≡ xored c (chi (pi (rho (theta s)))) → t ≡ rounds m z
 unfolding rounds round iota xored
-step z k before right after = after ∙ (λ i. xored (right i) (chi (pi (rho (theta (before i))))))
+step z k m next before right after =
+    after ∙ (λ i. xored (right i) (chi (pi (rho (theta (before i)))))) ∙ ap (λ (n : ℕ). rounds n z) next
 
 -- the permutation reads nothing but the lanes
 rounds_lanes : (s : List ℕ) (n : ℕ) → rounds (suc n) (state (lane s)) ≡ rounds (suc n) s

@@ -1,9 +1,12 @@
 -- The tables of the code are what FIPS 202's rules give, and a known answer of the permutation, each by one computed test.
 -- Assumes nothing.
-use mathlib.Core.Path.{◌≡◌, refl, ap}
-use mathlib.Core.List.{List, [], ◌∷◌, ◌++◌}
-use Prim.Native.Nat.{ℕ, zero, suc}
+use mathlib.Core.Path.{◌≡◌, refl, ◌∙◌, ap}
+use mathlib.Core.List.{List, [], ◌∷◌, map}
+use Prim.Native.Nat.{ℕ, ◌<◌}
+use native.Mathlib.Omega.{arith}
 use lib.ListN.{get_or, replicate}
+use Rattle.std.specs.List.{range_with_len}
+use Rattle.std.proofs.lemmas.List.FromFn.{get_or-map-range_with_len}
 use Rattle.keccak.specs.Keccak.{offsets, walk, round_constant, constant_bits, rc, shifted, keccak_f, rounds, round, iota, chi, pi, rho, theta, added, beside, parities}
 
 -- ---- ρ's offsets
@@ -31,16 +34,13 @@ constants =
     ∷ 0x8000000000008002 ∷ 0x8000000000000080 ∷ 0x800a ∷ 0x800000008000000a
     ∷ 0x8000000080008081 ∷ 0x8000000000008080 ∷ 0x80000001 ∷ 0x8000000080008008 ∷ []
 
-abbrev ruled : ℕ → List ℕ
-ruled zero = []
-ruled (suc n) = ruled n ++ (round_constant n ∷ [])
-
-constants_right : constants ≡ ruled 24
+constants_right : constants ≡ map round_constant (range_with_len 0 24)
 unfolding round_constant constant_bits rc shifted
 constants_right = refl
 
-pub constant_right : (k : ℕ) → get_or constants k 0 ≡ get_or (ruled 24) k 0
-constant_right k = ap (λ (l : List ℕ). get_or l k 0) constants_right
+pub constant_right : (k : ℕ) → k < 24 → get_or constants k 0 ≡ round_constant k
+constant_right k h =
+    ap (λ (l : List ℕ). get_or l k 0) constants_right ∙ get_or-map-range_with_len round_constant 0 24 k k 0 h (omega arith)
 
 -- ---- the permutation of the state in which every bit is 0
 

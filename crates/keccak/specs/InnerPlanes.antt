@@ -35,6 +35,10 @@ reveal s = state (λ x y. shown (get_or hidden (x + 5 * y) false) (lane s x y))
 unfoldable pub reveal_row : ℕ → List ℕ → List ℕ
 reveal_row y ls = row (λ x. shown (get_or hidden (x + 5 * y) false) (get_or ls x 0))
 
+-- θ's sums from those that the code holds
+unfoldable pub sided_row : List ℕ → List ℕ
+sided_row ds = row (λ x. shown (get_or sided x false) (get_or ds x 0))
+
 -- plane y after θ, ρ and π, from ρ's offsets, the five lanes that π brings there, and the sums beside their columns
 unfoldable pub turned_row : List ℕ → ℕ → List ℕ → List ℕ → List ℕ
 turned_row os y ls ds = row (λ x. rotl (bit_xor (get_or ls x 0) (get_or ds x 0)) (lane os (x + 3 * y) x))

@@ -1,10 +1,10 @@
 // Keccak-f[1600], the permutation of FIPS 202 (section 3): specs/Keccak.antt.
-// A round goes from one array of lanes to another, plane by plane, and keeps six lanes complemented: specs/Planes.antt.
+// A round goes from one array of lanes to another, plane by plane, and keeps six lanes complemented: specs/InnerPlanes.antt.
 #![tactic(auto)]
 
 ghost use Rattle.std.specs.Prelude.{◌<◌, [], ◌∷◌, ◌≡◌, length};
-ghost use Rattle.keccak.specs.Keccak.{rotl, complement, offsets, keccak_f};
-ghost use Rattle.keccak.specs.InnerPlanes.{reveal_row, held_plane, Parity, Beside, Hidden, Round};
+ghost use Rattle.keccak.specs.Keccak.{rotl, complement, beside as besideOf, parities, offsets, keccak_f};
+ghost use Rattle.keccak.specs.InnerPlanes.{reveal, reveal_row, sided_row, held_plane, Parity, Beside, Hidden, Round};
 
 // By how many bits ρ turns lane (x, y), at x + 5y.
 const ROTATIONS: [u32; 25] = [
@@ -39,16 +39,6 @@ const CONSTANTS: [u64; 24] = [
     0x8000000080008008,
 ];
 
-// The lanes of a plane, by x.
-#[derive(Drop)]
-struct Plane {
-    l0: u64,
-    l1: u64,
-    l2: u64,
-    l3: u64,
-    l4: u64,
-}
-
 // The second shift is by 64 - r, in two steps since no shift is by 64.
 fn turned(x: u64, r: u32) -> u64
     requires { r < 64 }
@@ -77,206 +67,166 @@ fn beside(before: u64, after: u64) -> u64
 
 // Plane y of a round before ι: lane x is the one that π brings to (x, y), with the sum beside its column, turned and
 // mixed by χ. Which lanes are complemented decides between ∧ and ∨, and leaves one complement to a plane.
-fn plane0(
-    a0: u64,
-    a1: u64,
-    a2: u64,
-    a3: u64,
-    a4: u64,
-    d0: u64,
-    d1: u64,
-    d2: u64,
-    d3: u64,
-    d4: u64,
-) -> Plane
-    ensures { reveal_row 0 (result.l0 ∷ result.l1 ∷ result.l2 ∷ result.l3 ∷ result.l4 ∷ [])
-        ≡ held_plane offsets 0 (a0 ∷ a1 ∷ a2 ∷ a3 ∷ a4 ∷ []) (d0 ∷ d1 ∷ d2 ∷ d3 ∷ d4 ∷ []) }
+fn plane0(a: [u64; 5], d: [u64; 5]) -> [u64; 5]
+    ensures { reveal_row 0 result ≡ held_plane offsets 0 a d }
 {
     let by = ROTATIONS;
+    let [a0, a1, a2, a3, a4] = a;
+    let [d0, d1, d2, d3, d4] = d;
     let b0 = turned(a0 ^ d0, by[0]);
     let b1 = turned(a1 ^ d1, by[6]);
     let b2 = turned(a2 ^ d2, by[12]);
     let b3 = turned(a3 ^ d3, by[18]);
     let b4 = turned(a4 ^ d4, by[24]);
     let n2 = !b2;
-    Plane {
-        l0: b0 ^ (b1 | b2),
-        l1: b1 ^ (n2 | b3),
-        l2: b2 ^ (b3 & b4),
-        l3: b3 ^ (b4 | b0),
-        l4: b4 ^ (b0 & b1),
-    }
+    [
+        b0 ^ (b1 | b2),
+        b1 ^ (n2 | b3),
+        b2 ^ (b3 & b4),
+        b3 ^ (b4 | b0),
+        b4 ^ (b0 & b1),
+    ]
 }
 
-fn plane1(
-    a0: u64,
-    a1: u64,
-    a2: u64,
-    a3: u64,
-    a4: u64,
-    d0: u64,
-    d1: u64,
-    d2: u64,
-    d3: u64,
-    d4: u64,
-) -> Plane
-    ensures { reveal_row 1 (result.l0 ∷ result.l1 ∷ result.l2 ∷ result.l3 ∷ result.l4 ∷ [])
-        ≡ held_plane offsets 1 (a0 ∷ a1 ∷ a2 ∷ a3 ∷ a4 ∷ []) (d0 ∷ d1 ∷ d2 ∷ d3 ∷ d4 ∷ []) }
+fn plane1(a: [u64; 5], d: [u64; 5]) -> [u64; 5]
+    ensures { reveal_row 1 result ≡ held_plane offsets 1 a d }
 {
     let by = ROTATIONS;
+    let [a0, a1, a2, a3, a4] = a;
+    let [d0, d1, d2, d3, d4] = d;
     let b0 = turned(a0 ^ d0, by[3]);
     let b1 = turned(a1 ^ d1, by[9]);
     let b2 = turned(a2 ^ d2, by[10]);
     let b3 = turned(a3 ^ d3, by[16]);
     let b4 = turned(a4 ^ d4, by[22]);
     let n4 = !b4;
-    Plane {
-        l0: b0 ^ (b1 | b2),
-        l1: b1 ^ (b2 & b3),
-        l2: b2 ^ (b3 | n4),
-        l3: b3 ^ (b4 | b0),
-        l4: b4 ^ (b0 & b1),
-    }
+    [
+        b0 ^ (b1 | b2),
+        b1 ^ (b2 & b3),
+        b2 ^ (b3 | n4),
+        b3 ^ (b4 | b0),
+        b4 ^ (b0 & b1),
+    ]
 }
 
-fn plane2(
-    a0: u64,
-    a1: u64,
-    a2: u64,
-    a3: u64,
-    a4: u64,
-    d0: u64,
-    d1: u64,
-    d2: u64,
-    d3: u64,
-    d4: u64,
-) -> Plane
-    ensures { reveal_row 2 (result.l0 ∷ result.l1 ∷ result.l2 ∷ result.l3 ∷ result.l4 ∷ [])
-        ≡ held_plane offsets 2 (a0 ∷ a1 ∷ a2 ∷ a3 ∷ a4 ∷ []) (d0 ∷ d1 ∷ d2 ∷ d3 ∷ d4 ∷ []) }
+fn plane2(a: [u64; 5], d: [u64; 5]) -> [u64; 5]
+    ensures { reveal_row 2 result ≡ held_plane offsets 2 a d }
 {
     let by = ROTATIONS;
+    let [a0, a1, a2, a3, a4] = a;
+    let [d0, d1, d2, d3, d4] = d;
     let b0 = turned(a0 ^ d0, by[1]);
     let b1 = turned(a1 ^ d1, by[7]);
     let b2 = turned(a2 ^ d2, by[13]);
     let b3 = turned(a3 ^ d3, by[19]);
     let b4 = turned(a4 ^ d4, by[20]);
     let n3 = !b3;
-    Plane {
-        l0: b0 ^ (b1 | b2),
-        l1: b1 ^ (b2 & b3),
-        l2: b2 ^ (n3 & b4),
-        l3: n3 ^ (b4 | b0),
-        l4: b4 ^ (b0 & b1),
-    }
+    [
+        b0 ^ (b1 | b2),
+        b1 ^ (b2 & b3),
+        b2 ^ (n3 & b4),
+        n3 ^ (b4 | b0),
+        b4 ^ (b0 & b1),
+    ]
 }
 
-fn plane3(
-    a0: u64,
-    a1: u64,
-    a2: u64,
-    a3: u64,
-    a4: u64,
-    d0: u64,
-    d1: u64,
-    d2: u64,
-    d3: u64,
-    d4: u64,
-) -> Plane
-    ensures { reveal_row 3 (result.l0 ∷ result.l1 ∷ result.l2 ∷ result.l3 ∷ result.l4 ∷ [])
-        ≡ held_plane offsets 3 (a0 ∷ a1 ∷ a2 ∷ a3 ∷ a4 ∷ []) (d0 ∷ d1 ∷ d2 ∷ d3 ∷ d4 ∷ []) }
+fn plane3(a: [u64; 5], d: [u64; 5]) -> [u64; 5]
+    ensures { reveal_row 3 result ≡ held_plane offsets 3 a d }
 {
     let by = ROTATIONS;
+    let [a0, a1, a2, a3, a4] = a;
+    let [d0, d1, d2, d3, d4] = d;
     let b0 = turned(a0 ^ d0, by[4]);
     let b1 = turned(a1 ^ d1, by[5]);
     let b2 = turned(a2 ^ d2, by[11]);
     let b3 = turned(a3 ^ d3, by[17]);
     let b4 = turned(a4 ^ d4, by[23]);
     let n3 = !b3;
-    Plane {
-        l0: b0 ^ (b1 & b2),
-        l1: b1 ^ (b2 | b3),
-        l2: b2 ^ (n3 | b4),
-        l3: n3 ^ (b4 & b0),
-        l4: b4 ^ (b0 | b1),
-    }
+    [
+        b0 ^ (b1 & b2),
+        b1 ^ (b2 | b3),
+        b2 ^ (n3 | b4),
+        n3 ^ (b4 & b0),
+        b4 ^ (b0 | b1),
+    ]
 }
 
-fn plane4(
-    a0: u64,
-    a1: u64,
-    a2: u64,
-    a3: u64,
-    a4: u64,
-    d0: u64,
-    d1: u64,
-    d2: u64,
-    d3: u64,
-    d4: u64,
-) -> Plane
-    ensures { reveal_row 4 (result.l0 ∷ result.l1 ∷ result.l2 ∷ result.l3 ∷ result.l4 ∷ [])
-        ≡ held_plane offsets 4 (a0 ∷ a1 ∷ a2 ∷ a3 ∷ a4 ∷ []) (d0 ∷ d1 ∷ d2 ∷ d3 ∷ d4 ∷ []) }
+fn plane4(a: [u64; 5], d: [u64; 5]) -> [u64; 5]
+    ensures { reveal_row 4 result ≡ held_plane offsets 4 a d }
 {
     let by = ROTATIONS;
+    let [a0, a1, a2, a3, a4] = a;
+    let [d0, d1, d2, d3, d4] = d;
     let b0 = turned(a0 ^ d0, by[2]);
     let b1 = turned(a1 ^ d1, by[8]);
     let b2 = turned(a2 ^ d2, by[14]);
     let b3 = turned(a3 ^ d3, by[15]);
     let b4 = turned(a4 ^ d4, by[21]);
     let n1 = !b1;
-    Plane {
-        l0: b0 ^ (n1 & b2),
-        l1: n1 ^ (b2 | b3),
-        l2: b2 ^ (b3 & b4),
-        l3: b3 ^ (b4 | b0),
-        l4: b4 ^ (b0 & b1),
-    }
+    [
+        b0 ^ (n1 & b2),
+        n1 ^ (b2 | b3),
+        b2 ^ (b3 & b4),
+        b3 ^ (b4 | b0),
+        b4 ^ (b0 & b1),
+    ]
 }
 
-// Each lane is read again after the stores: kept in a local, it would be spilled.
-fn round(s: &[u64; 25], t: &mut [u64; 25], k: u64)
-    requires { length t.old ≡ 25 }
-    ensures { Round k s.now t.new }
+// θ's sums beside the columns; those of the columns 0 and 3 come out complemented.
+fn sides(s: &[u64; 25]) -> [u64; 5]
+    ensures { sided_row result ≡ besideOf (parities (reveal s.now)) }
 {
     let c0 = parity(s[0], s[5], s[10], s[15], s[20]);
     let c1 = parity(s[1], s[6], s[11], s[16], s[21]);
     let c2 = parity(s[2], s[7], s[12], s[17], s[22]);
     let c3 = parity(s[3], s[8], s[13], s[18], s[23]);
     let c4 = parity(s[4], s[9], s[14], s[19], s[24]);
-    let d0 = beside(c4, c1);
-    let d1 = beside(c0, c2);
-    let d2 = beside(c1, c3);
-    let d3 = beside(c2, c4);
-    let d4 = beside(c3, c0);
-    let p0 = plane0(s[0], s[6], s[12], s[18], s[24], d0, d1, d2, d3, d4);
-    t[0] = p0.l0 ^ k;
-    t[1] = p0.l1;
-    t[2] = p0.l2;
-    t[3] = p0.l3;
-    t[4] = p0.l4;
-    let p1 = plane1(s[3], s[9], s[10], s[16], s[22], d3, d4, d0, d1, d2);
-    t[5] = p1.l0;
-    t[6] = p1.l1;
-    t[7] = p1.l2;
-    t[8] = p1.l3;
-    t[9] = p1.l4;
-    let p2 = plane2(s[1], s[7], s[13], s[19], s[20], d1, d2, d3, d4, d0);
-    t[10] = p2.l0;
-    t[11] = p2.l1;
-    t[12] = p2.l2;
-    t[13] = p2.l3;
-    t[14] = p2.l4;
-    let p3 = plane3(s[4], s[5], s[11], s[17], s[23], d4, d0, d1, d2, d3);
-    t[15] = p3.l0;
-    t[16] = p3.l1;
-    t[17] = p3.l2;
-    t[18] = p3.l3;
-    t[19] = p3.l4;
-    let p4 = plane4(s[2], s[8], s[14], s[15], s[21], d2, d3, d4, d0, d1);
-    t[20] = p4.l0;
-    t[21] = p4.l1;
-    t[22] = p4.l2;
-    t[23] = p4.l3;
-    t[24] = p4.l4;
+    [
+        beside(c4, c1),
+        beside(c0, c2),
+        beside(c1, c3),
+        beside(c2, c4),
+        beside(c3, c0),
+    ]
+}
+
+// Each lane is read again after the stores: kept in a local, it would be spilled. The stores go one by one: with a copy of
+// each plane into its place a round takes half as long again, and 104 bytes of stack.
+fn round(s: &[u64; 25], t: &mut [u64; 25], k: u64)
+    requires { length t.old ≡ 25 }
+    ensures { Round k s.now t.new }
+{
+    let [d0, d1, d2, d3, d4] = sides(s);
+    let p0 = plane0([s[0], s[6], s[12], s[18], s[24]], [d0, d1, d2, d3, d4]);
+    t[0] = p0[0] ^ k;
+    t[1] = p0[1];
+    t[2] = p0[2];
+    t[3] = p0[3];
+    t[4] = p0[4];
+    let p1 = plane1([s[3], s[9], s[10], s[16], s[22]], [d3, d4, d0, d1, d2]);
+    t[5] = p1[0];
+    t[6] = p1[1];
+    t[7] = p1[2];
+    t[8] = p1[3];
+    t[9] = p1[4];
+    let p2 = plane2([s[1], s[7], s[13], s[19], s[20]], [d1, d2, d3, d4, d0]);
+    t[10] = p2[0];
+    t[11] = p2[1];
+    t[12] = p2[2];
+    t[13] = p2[3];
+    t[14] = p2[4];
+    let p3 = plane3([s[4], s[5], s[11], s[17], s[23]], [d4, d0, d1, d2, d3]);
+    t[15] = p3[0];
+    t[16] = p3[1];
+    t[17] = p3[2];
+    t[18] = p3[3];
+    t[19] = p3[4];
+    let p4 = plane4([s[2], s[8], s[14], s[15], s[21]], [d2, d3, d4, d0, d1]);
+    t[20] = p4[0];
+    t[21] = p4[1];
+    t[22] = p4[2];
+    t[23] = p4[3];
+    t[24] = p4[4];
 }
 
 // Complements the six lanes, which are the same on the way in and on the way out.
@@ -302,29 +252,9 @@ pub fn permute(s: &mut [u64; 25])
     let mut t = [0u64; 25];
     let ks = CONSTANTS;
     hide(s);
-    round(s, &mut t, ks[0]);
-    round(&t, s, ks[1]);
-    round(s, &mut t, ks[2]);
-    round(&t, s, ks[3]);
-    round(s, &mut t, ks[4]);
-    round(&t, s, ks[5]);
-    round(s, &mut t, ks[6]);
-    round(&t, s, ks[7]);
-    round(s, &mut t, ks[8]);
-    round(&t, s, ks[9]);
-    round(s, &mut t, ks[10]);
-    round(&t, s, ks[11]);
-    round(s, &mut t, ks[12]);
-    round(&t, s, ks[13]);
-    round(s, &mut t, ks[14]);
-    round(&t, s, ks[15]);
-    round(s, &mut t, ks[16]);
-    round(&t, s, ks[17]);
-    round(s, &mut t, ks[18]);
-    round(&t, s, ks[19]);
-    round(s, &mut t, ks[20]);
-    round(&t, s, ks[21]);
-    round(s, &mut t, ks[22]);
-    round(&t, s, ks[23]);
+    for i in 0..12 {
+        round(s, &mut t, ks[2 * i]);
+        round(&t, s, ks[2 * i + 1]);
+    }
     hide(s);
 }

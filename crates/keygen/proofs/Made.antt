@@ -1,6 +1,5 @@
 -- The seeds of a private seed and the parts of them that are lent, and what the draws of a key leave. Assumes nothing.
-use mathlib.Core.Path.{◌≡◌, ◌∙◌, ap, sym}
-use mathlib.Core.Bool.{Bool, true, false, false≢true}
+use mathlib.Core.Path.{◌≡◌, refl, ◌∙◌, ap}
 use mathlib.Core.List.{List, [], ◌∷◌, ◌++◌}
 use Prim.Native.Nat.{ℕ, ◌-◌, ◌*◌, ◌^◌, ◌≤◌}
 use native.Mathlib.Omega.{arith}
@@ -9,7 +8,7 @@ use lib.Seq.{take_all, take_at, drop-append-le}
 use lib.Pow.{pow_mono}
 use borrow.Author.Tests.{eq-eqb}
 use Rattle.outcome.specs.Answer.{Check, ◌unless◌, short_draw, first_refusal}
-use Rattle.outcome.proofs.Checks.{fails, holds}
+use Rattle.outcome.proofs.Answering.{stops, goes_on}
 use Rattle.packing.specs.Packing.{pack}
 use Rattle.packing.proofs.Below.{Below, none, more}
 use Rattle.parameters.specs.declared.Params.{Params}
@@ -43,7 +42,10 @@ pub seeds_made : (p : Params) (private : List ℕ) {n : ℕ} {seeds : List ℕ} 
 unfolding key_seeds key_seeds_string bytes_from
 seeds_made p private sized made = made ∙ ap (λ (k : ℕ). shake p.rate (12 ∷ private) k) sized
 
--- the last draw of a key
+-- the draws of a key
+abbrev matrix_draw : Params → List ℕ → List Check
+matrix_draw p private = short_draw unless matrix_drawn p (public_seed p private) ∷ []
+
 abbrev exponents_draw : Params → List ℕ → List Check
 exponents_draw p private = short_draw unless exponents_drawn p (key_exponents_string (secret_seed p private)) ∷ []
 
@@ -60,38 +62,37 @@ module _ (p : Params) (private : List ℕ) {seeds : List ℕ} (held : seeds ≡ 
       ∙ ap (λ (s : List ℕ). drop p.digest s) held
 
   module _ {public : List ℕ} (public_is : public ≡ public_seed p private) where
+    -- what is answered of V
+    matrix_answered : {r : ℕ} {vs : List ℕ} → Expanded (matrix_drawn p public) (matrix_count p) (matrix p public) r vs
+        → r ≡ first_refusal (matrix_draw p private)
+    matrix_answered drawn = drawn.answer ∙ ap (λ (s : List ℕ). first_refusal (short_draw unless matrix_drawn p s ∷ [])) public_is
+
     -- V is short
-    pub matrix_short : {ok : Bool} {vs es : List ℕ} → ok ≡ false →
-        Expanded (matrix_drawn p public) (matrix_count p) (matrix p public) ok vs → Material p private false seeds vs es
+    pub matrix_short : {r : ℕ} {vs es : List ℕ} → (r ≡ 0 → ⊥)
+        → Expanded (matrix_drawn p public) (matrix_count p) (matrix p public) r vs → Material p private r seeds vs es
     unfolding key_draws
-    matrix_short failed drawn =
+    matrix_short short drawn =
         record {
-          answer =
-              fails short_draw (matrix_drawn p (public_seed p private)) (exponents_draw p private)
-              (sym (ap (λ (s : List ℕ). matrix_drawn p s) public_is) ∙ sym drawn.answer ∙ failed);
+          answer = stops (matrix_draw p private) (exponents_draw p private) (matrix_answered drawn) short;
           seeds_held = held;
-          matrix_held = λ (e : false ≡ true). absurd (false≢true e);
-          exponents_held = λ (e : false ≡ true). absurd (false≢true e);
+          matrix_held = λ e. absurd (short e);
+          exponents_held = λ e. absurd (short e);
         }
 
     -- V is there, and the key exponents decide
-    pub exponents_drawn_lem : {secret : List ℕ} {got ok : Bool} {vs es : List ℕ} → secret ≡ secret_seed p private → got
-        ≡ true →
-        Expanded (matrix_drawn p public) (matrix_count p) (matrix p public) got vs →
-        Expanded (exponents_drawn p (key_exponents_string secret)) p.n (exponents_from p (key_exponents_string secret)) ok es →
-        Material p private ok seeds vs es
+    pub exponents_answered : {secret : List ℕ} {r : ℕ} {vs es : List ℕ} → secret ≡ secret_seed p private
+        → Expanded (matrix_drawn p public) (matrix_count p) (matrix p public) 0 vs
+        → Expanded (exponents_drawn p (key_exponents_string secret)) p.n (exponents_from p (key_exponents_string secret)) r es
+        → Material p private r seeds vs es
     unfolding key_draws key_exponents
-    exponents_drawn_lem {secret} {got} {ok} secret_is there drawn exponents =
-        let suffices : matrix_drawn p (public_seed p private) ≡ true =
-        sym (ap (λ (s : List ℕ). matrix_drawn p s) public_is) ∙ sym drawn.answer ∙ there
-        in
-        let last : exponents_drawn p (key_exponents_string (secret_seed p private)) ≡ ok =
-        sym (ap (λ (s : List ℕ). exponents_drawn p (key_exponents_string s)) secret_is) ∙ sym exponents.answer
+    exponents_answered {secret} {r} secret_is drawn exponents =
+        let last : r ≡ first_refusal (exponents_draw p private) =
+        exponents.answer ∙ ap (λ (s : List ℕ). first_refusal (short_draw unless exponents_drawn p (key_exponents_string s) ∷ [])) secret_is
         in
         record {
-          answer = holds short_draw (matrix_drawn p (public_seed p private)) (exponents_draw p private) suffices ∙ rw last;
+          answer = goes_on (matrix_draw p private) (exponents_draw p private) (matrix_answered drawn) refl last;
           seeds_held = held;
-          matrix_held = λ _. drawn.content there ∙ ap (λ (s : List ℕ). matrix p s) public_is;
+          matrix_held = λ _. drawn.content refl ∙ ap (λ (s : List ℕ). matrix p s) public_is;
           exponents_held = λ e. exponents.content e ∙ ap (λ (s : List ℕ). exponents_from p (key_exponents_string s)) secret_is;
         }
 

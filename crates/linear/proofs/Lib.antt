@@ -4,7 +4,7 @@ pub mod Combined
 pub mod Honest
 pub mod Opening
 pub mod Kept
-pub mod Loops
+pub mod Places
 pub mod Rows
 pub mod Steps
 pub mod Spelled

@@ -2,12 +2,11 @@
 use mathlib.Core.Path.{◌≡◌, refl, ◌∙◌, ap}
 use mathlib.Core.List.{List, [], ◌∷◌, ◌++◌}
 use Prim.Native.Nat.{ℕ, zero, suc, ◌+◌, ◌-◌, ◌*◌, ◌%◌, ◌≤◌, ◌<◌}
-use native.Mathlib.Nat.{mul-suc, mul-le-mul_left}
 use native.Mathlib.Numerals.{add-one}
 use native.Mathlib.Omega.{arith}
 use lib.Dec.{T, lit<}
-use lib.ListN.{length, take, drop, get_or, replicate, drop_of_length-le, length-append, length-drop}
-use lib.Seq.{drop-cons, drop-drop, drop_at, take-add, take-take, take_at, length-take-le}
+use lib.ListN.{length, take, drop, get_or, replicate, drop_of_length-le, length-drop}
+use lib.Seq.{drop-cons, drop-drop, drop_at, take-add, take-take, take_at, take_all, length-take-le}
 use Rattle.outcome.proofs.Numbers.{product_le}
 use Rattle.packing.specs.Packing.{all_below}
 use Rattle.packing.proofs.Below.{Below, none, more, below, below_at, below_append, below_take, below_drop}
@@ -48,11 +47,6 @@ dot_halves row x h =
     dot_split (drop h row) (drop h x) h ∙ rw (drop-drop, drop-drop) in
     rw width (omega (arith, dot_split row x h, rest))
 
-pub half_long : (row : List ℕ) (h : ℕ) → h + h ≤ length row → length (take (h + h - h) (drop h row)) ≡ h
-half_long row h fits =
-    let width : h + h - h ≡ h = omega arith in
-    rw width (length-take-le h (drop h row) (rw length-drop (omega arith)))
-
 -- zeros count nothing, by themselves ..
 dot_zeros : (row z : List ℕ) → Below 1 z → dot row z ≡ 0
 unfolding dot
@@ -91,9 +85,6 @@ product_of row x i hr hx tr tx =
 pub pair_low : (p q : ℕ) → p ≤ 15876 → q ≤ 15876 → folded (p + q) ≤ 375
 pair_low p q hp hq = omega arith
 
-pub pair_bound : (sum r p i : ℕ) → sum ≤ i * 375 → r ≡ p → p ≤ 375 → sum + r ≤ (i + 1) * 375
-pair_bound sum r p i h e l = omega arith
-
 -- two products more, folded
 pub pair_step : (sum p q r t whole : ℕ) → (sum + ((p + r) + (q + t))) % 127 ≡ whole % 127
     → (sum + folded (p + q) + (r + t)) % 127 ≡ whole % 127
@@ -109,17 +100,9 @@ pair_step sum p q r t whole e =
     regrouped : (sum p q r t : ℕ) → sum + (r + t) + (p + q) ≡ sum + ((p + r) + (q + t))
     regrouped sum p q r t = omega arith
 
--- row i of m lies within them
-pub row_within : (k i m : ℕ) → i < m → k * i + k ≤ k * m
-row_within k i m h = rw (← mul-suc) (mul-le-mul_left k h)
-
--- the part of V that the code takes for row i, of m rows: w places of those that are left
-pub row_part : (k : ℕ) (vs : List ℕ) (m i at w : ℕ) → length vs ≡ k * m → i < m → at ≡ k * i → w ≤ length vs - at
-    → (take (at + w - at) (drop at vs) ≡ take w (drop (k * i) vs)) × (length (take (at + w - at) (drop at vs)) ≡ w)
-row_part k vs m i at w size h e room =
-    let within = row_within k i m h in
-    let width : at + w - at ≡ w = omega arith in
-    (rw (width, e), rw width (length-take-le w (drop at vs) (rw length-drop room)))
+-- what is left of a list from a place on, as the code takes it
+pub rest_taken : (at : ℕ) (xs : List ℕ) → take (length xs - at) (drop at xs) ≡ drop at xs
+rest_taken at xs = take_all (length xs - at) (drop at xs) (omega (arith, length-drop at xs))
 
 -- ---- the places that V covers, with zeros after them: the first k of an array of zeros become new
 
@@ -128,9 +111,6 @@ zeros m zero h = none
 zeros m (suc n) h = more h (zeros m n h)
 
 module _ (k : ℕ) (new : List ℕ) (size : length new ≡ k) (fits : k ≤ 256) where
-  pub covered_long : length (new ++ drop k (replicate 256 0)) ≡ 256
-  covered_long = length-append new (drop k (replicate 256 0)) ∙ omega (arith, length-drop {A = ℕ} k (replicate 256 0))
-
   pub covered_below : Below 127 new → Below 127 (new ++ drop k (replicate 256 0))
   covered_below b = below_append b (below_drop k (zeros 127 256 (lit< tt)))
 

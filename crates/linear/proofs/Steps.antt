@@ -1,16 +1,14 @@
--- Products that were looked up are the multiples that are meant; powers are multiples of 1; responses are sums with them.
+-- Powers are multiples of 1; responses are sums with multiples.
 -- Assumes nothing.
 use mathlib.Core.Path.{◌≡◌, refl, ◌∙◌, ap}
 use mathlib.Core.List.{List, [], ◌∷◌, map, zip_with}
 use Prim.Native.Nat.{ℕ, ◌+◌, ◌%◌, ◌<◌}
 use native.Mathlib.Omega.{arith}
 use lib.Dec.{T}
-use lib.ListN.{get_or}
 use Rattle.packing.specs.Packing.{all_below}
 use Rattle.packing.proofs.Below.{Below, none, more, below}
 use Rattle.field.specs.Field.{power, times_power, respond}
-use Rattle.field.specs.InnerProducts.{Multiples}
-use Rattle.field.proofs.Products.{multiple_at, power_value}
+use Rattle.field.proofs.Products.{power_value}
 use Rattle.linear.specs.Linear.{powers, response}
 use Rattle.linear.specs.InnerSteps.{multiplied, added}
 
@@ -19,12 +17,6 @@ map_below : (m : ℕ) (f g : ℕ → ℕ) → ((x : ℕ) → x < m → f x ≡ g
 map_below m f g same [] none = refl
 map_below m f g same (x ∷ xs) (more h b) =
     ap (λ (y : ℕ). y ∷ map f xs) (same x h) ∙ ap (λ (ys : List ℕ). g x ∷ ys) (map_below m f g same xs b)
-
-pub multiples_multiplied : (b : ℕ) (t : List ℕ) → Multiples b t → (es : List ℕ) → T (all_below 7 es)
-    → map (λ (e : ℕ). get_or t e 0) es ≡ multiplied b es
-unfolding multiplied
-multiples_multiplied b t rule es low =
-    map_below 7 (λ (e : ℕ). get_or t e 0) (λ (e : ℕ). times_power e b) (multiple_at b t rule) es (below 7 es low)
 
 pub below_multiplied : (b : ℕ) (es : List ℕ) → Below 127 (multiplied b es)
 unfolding multiplied

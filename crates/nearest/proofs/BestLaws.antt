@@ -9,11 +9,11 @@ use native.Mathlib.Omega.{arith}
 use lib.Dec.{eqb, leb, ltb}
 use borrow.Author.Tests.{ltb-true, ltb-false, leb-true, eqb-true, le-ltb, le-leb, eq-eqb}
 use Rattle.outcome.specs.Answer.{pick}
+use Rattle.outcome.specs.Lists.{In}
 use Rattle.profile.specs.declared.Profile.{Profile}
 use Rattle.store.proofs.KeyLaws.{both_true, not_both}
 use Rattle.nearest.specs.declared.Measured.{Measured}
 use Rattle.nearest.specs.Nearest.{far_from, is_of, reach, is_near, near, wins_tie, is_better, best_of}
-use Rattle.nearest.specs.Theorems.{In}
 
 -- ---- the tie rule: nothing else here knows what it says
 

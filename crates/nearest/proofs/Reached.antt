@@ -14,7 +14,7 @@ use native.Mathlib.Omega.{arith}
 use lib.Dec.{T}
 use borrow.Author.Tests.{eqb-true}
 use Rattle.outcome.specs.Answer.{pick}
-use Rattle.outcome.specs.Result.{Result, done, refused}
+use Rattle.outcome.specs.Result.{Result, Ok, Err}
 use Rattle.profile.specs.declared.Profile.{Profile}
 use Rattle.profile.specs.Rules.{Class, class_in, is_class, valid}
 use Rattle.profile.proofs.RuleLaws.{parts}
@@ -29,7 +29,8 @@ use Rattle.store.proofs.LookupLaws.{lookup_found}
 use Rattle.store.proofs.Reached.{reached_hold}
 use Rattle.nearest.specs.declared.Measured.{Measured}
 use Rattle.nearest.specs.Nearest.{nearest_in}
-use Rattle.nearest.specs.Theorems.{In, device_for, ReachedNearest}
+use Rattle.outcome.specs.Lists.{In}
+use Rattle.nearest.specs.Theorems.{device_for, ReachedNearest}
 use Rattle.nearest.proofs.BestLaws.{same_volts, near_in, in_near, near_parts}
 use Rattle.nearest.proofs.Theorems.{nearest_good, suggested, none_within, within_none}
 
@@ -50,15 +51,15 @@ in_valid table p (q ∷ qs) (inl s) all = subst (λ (r : Profile). T (valid tabl
 in_valid table p (q ∷ qs) (inr i) all = in_valid table p qs i all.1
 
 -- where no key stands twice, what is stored is found under its key
-in_find : (p : Profile) (ps : List Profile) → In p ps → Distinct ps → find (key_of p) ps ≡ done p
+in_find : (p : Profile) (ps : List Profile) → In p ps → Distinct ps → find (key_of p) ps ≡ Ok p
 unfolding find
 in_find p [] i one = absurd i
 in_find p (q ∷ qs) (inl s) one =
-    subst (λ (r : Profile). find (key_of r) (q ∷ qs) ≡ done r) (sym s) (rw (same_refl (key_of q)))
+    subst (λ (r : Profile). find (key_of r) (q ∷ qs) ≡ Ok r) (sym s) (rw (same_refl (key_of q)))
 in_find p (q ∷ qs) (inr i) one = go (same_key (key_of q) (key_of p)) refl (in_find p qs i one.1)
   where
-    go : (b : Bool) → same_key (key_of q) (key_of p) ≡ b → find (key_of p) qs ≡ done p
-        → pick b (done q) (find (key_of p) qs) ≡ done p
+    go : (b : Bool) → same_key (key_of q) (key_of p) ≡ b → find (key_of p) qs ≡ Ok p
+        → pick b (Ok q) (find (key_of p) qs) ≡ Ok p
     go true e rest =
         let twice : is_stored (key_of q) qs ≡ true =
         ap (λ (k : Key). is_stored k qs) (same_eq (key_of q) (key_of p) e) ∙ ap is_done rest in
@@ -68,8 +69,8 @@ in_find p (q ∷ qs) (inr i) one = go (same_key (key_of q) (key_of p)) refl (in_
 -- ---- the class follows from the volts
 
 one_class : (r : Result ℕ) (a b : ℕ) → is_class r a ≡ true → is_class r b ≡ true → a ≡ b
-one_class (done c) a b e f = eqb-true a c e ∙ sym (eqb-true b c f)
-one_class (refused r) a b e f = absurd (not_both false e refl)
+one_class (Ok c) a b e f = eqb-true a c e ∙ sym (eqb-true b c f)
+one_class (Err r) a b e f = absurd (not_both false e refl)
 
 same_class : (table : List Class) (p q : Profile) → T (valid table p) → T (valid table q) → p.volts ≡ q.volts
     → p.class ≡ q.class
@@ -86,8 +87,8 @@ module _ (table : List Class) (m : Measured) {ps qs : List Profile} (perm : Perm
   unfolding Permᴰ.symm
   back = Permᴰ.symm perm
 
-  both : (p q : Profile) → nearest_in m ps ≡ done p → nearest_in m qs ≡ done q
-      → ◌≡◌ {A = Result Profile} (done p) (done q)
+  both : (p q : Profile) → nearest_in m ps ≡ Ok p → nearest_in m qs ≡ Ok q
+      → ◌≡◌ {A = Result Profile} (Ok p) (Ok q)
   both p q e f =
       let p_good = nearest_good m ps p e in
       let q_good = nearest_good m qs q f in
@@ -107,7 +108,7 @@ module _ (table : List Class) (m : Measured) {ps qs : List Profile} (perm : Perm
       sym (in_find p ps p_near.0 one) ∙ ap (λ (k : Key). find k ps) key ∙ in_find q ps q_in one
 
   -- nothing in one, something in the other
-  apart : {rs ss : List Profile} → Perm rs ss → (p : Profile) → nearest_in m rs ≡ done p
+  apart : {rs ss : List Profile} → Perm rs ss → (p : Profile) → nearest_in m rs ≡ Ok p
       → is_done (nearest_in m ss) ≡ false → ⊥
   apart {rs} {ss} d p e f =
       let good = nearest_good m rs p e in
@@ -121,10 +122,10 @@ module _ (table : List Class) (m : Measured) {ps qs : List Profile} (perm : Perm
   perm_nearest = go (nearest_in m ps) (nearest_in m qs) refl refl
     where
       go : (r s : Result Profile) → nearest_in m ps ≡ r → nearest_in m qs ≡ s → r ≡ s
-      go (done p) (done q) e f = both p q e f
-      go (done p) (refused s) e f = absurd (apart perm p e (ap is_done f))
-      go (refused r) (done q) e f = absurd (apart back q f (ap is_done e))
-      go (refused r) (refused s) e f =
+      go (Ok p) (Ok q) e f = both p q e f
+      go (Ok p) (Err s) e f = absurd (apart perm p e (ap is_done f))
+      go (Err r) (Ok q) e f = absurd (apart back q f (ap is_done e))
+      go (Err r) (Err s) e f =
           let none = within_none m ps (none_within m ps (ap is_done e)) in
           let other = within_none m qs (none_within m qs (ap is_done f)) in
           sym e ∙ none ∙ sym other ∙ f

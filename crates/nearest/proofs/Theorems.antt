@@ -9,7 +9,7 @@ use lib.Dec.{T, eqb, leb}
 use lib.ListN.{length, drop}
 use borrow.Author.Tests.{eqb-true, ltb-false, leb-true, leb-false}
 use Rattle.outcome.specs.Answer.{bad_size, bad_profile, not_stored, bad_device, ◌unless◌, first_refusal, AnswersFront}
-use Rattle.outcome.specs.Result.{Result, done, refused}
+use Rattle.outcome.specs.Result.{Result, Ok, Err}
 use Rattle.outcome.proofs.Checks.{passed}
 use Rattle.profile.specs.declared.Profile.{Profile}
 use Rattle.profile.specs.Rules.{Class, valid}
@@ -20,7 +20,8 @@ use Rattle.store.proofs.KeyLaws.{both_true}
 use Rattle.store.proofs.FoundLaws.{nothing_found}
 use Rattle.nearest.specs.declared.Measured.{Measured}
 use Rattle.nearest.specs.Nearest.{measured_of, measured_ok, far_from, is_of, reach, near, best_of, best, nearest_in, suggest_checks}
-use Rattle.nearest.specs.Theorems.{In, Suggested, NoneWithin, NineExactly, LineSuggested}
+use Rattle.outcome.specs.Lists.{In}
+use Rattle.nearest.specs.Theorems.{Suggested, NoneWithin, NineExactly, LineSuggested}
 use Rattle.nearest.proofs.BestLaws.{
   AsGood,
   good_each,
@@ -52,11 +53,11 @@ is_of_parts m q e =
 
 module _ (m : Measured) (ps : List Profile) where
   -- what is nearest counts, and is at least as good as all that count
-  pub nearest_good : (p : Profile) → nearest_in m ps ≡ done p
+  pub nearest_good : (p : Profile) → nearest_in m ps ≡ Ok p
       → In p (near m ps) × ((q : Profile) → In q (near m ps) → AsGood m p q)
   nearest_good p e = go (near m ps) e
     where
-      go : (l : List Profile) → best m l ≡ done p → In p l × ((q : Profile) → In q l → AsGood m p q)
+      go : (l : List Profile) → best m l ≡ Ok p → In p l × ((q : Profile) → In q l → AsGood m p q)
       go [] e = let z : ◌≡◌ {A = ℕ} 0 1 = cc in absurd (omega arith)
       go (r ∷ rs) e =
           let same : best_of m r rs ≡ p = cc in
@@ -66,7 +67,7 @@ module _ (m : Measured) (ps : List Profile) where
                 (good_each m (best_of m r rs) r rs good.0 good.1),
           )
 
-  pub suggested : (p : Profile) → nearest_in m ps ≡ done p → Suggested m ps p
+  pub suggested : (p : Profile) → nearest_in m ps ≡ Ok p → Suggested m ps p
   suggested p e =
       let good = nearest_good p e in
       let counts = near_in m ps p good.0 in
@@ -105,10 +106,10 @@ module _ (m : Measured) (ps : List Profile) where
       go (inl h) = absurd (some (near m ps) (in_near m ps q i (parts_near m q of h)) e)
       go (inr h) = h
 
-  pub within_none : NoneWithin m ps → nearest_in m ps ≡ refused not_stored
+  pub within_none : NoneWithin m ps → nearest_in m ps ≡ Err not_stored
   within_none none = go (near m ps) (λ q i. i)
     where
-      go : (l : List Profile) → ((q : Profile) → In q l → In q (near m ps)) → best m l ≡ refused not_stored
+      go : (l : List Profile) → ((q : Profile) → In q l → In q (near m ps)) → best m l ≡ Err not_stored
       go [] all = refl
       go (r ∷ rs) all =
           let counts = near_in m ps r (all r (inl refl)) in
@@ -158,8 +159,8 @@ nine_exactly table image country hertz volts old before answer lent after sugges
       λ asks none.
           suggests.answers.answer
           ∙ sym
-          (nothing_found table image country old (measured_ok m) found before asks.two asks.sound asks.whole
-          asks.room (sym (within_none m (stored image) none))).answers.answer,
+          (nothing_found table image country old asks.two asks.sound asks.whole asks.room {before = before}
+          (sym (within_none m (stored image) none))).answers.answer,
     )
 
 pub line_suggested : (table : List Class) → LineSuggested table
@@ -176,11 +177,11 @@ line_suggested table image country hertz volts old before answer lent after sugg
         (found_line found) old before answer lent after
         → (p : Profile) × Suggested (measured_of country hertz volts) (stored image) p × T (valid table p)
         × (lent ≡ line_of p ++ drop (length (line_of p)) old) × (after ≡ length (line_of p))
-    go (done p) e there ok writes = (
+    go (Ok p) e there ok writes = (
       p,
       suggested (measured_of country hertz volts) (stored image) p e,
       ok,
       rw zero at writes.answers.content,
       rw zero at writes.size,
     )
-    go (refused r) e there ok writes = absurd there
+    go (Err r) e there ok writes = absurd there

@@ -3,7 +3,7 @@
 -- Assumes nothing.
 use Rattle.std.specs.Prelude.{Bool, ◌&&◌, ◌||◌, List, [], ◌∷◌, ℕ, ◌+◌, ◌-◌, eqb, leb, ltb, get_or}
 use Rattle.outcome.specs.Answer.{not_stored, Check, pick}
-use Rattle.outcome.specs.Result.{Result, done, refused}
+use Rattle.outcome.specs.Result.{Result, Ok, Err}
 use Rattle.profile.specs.declared.Profile.{Profile}
 use Rattle.profile.specs.Rules.{Class, Range, ◌to◌, contains, in_one_of, letters, nominal_hertz}
 use Rattle.store.specs.Stored.{classes_of, stored}
@@ -71,8 +71,8 @@ best_of m p [] = p
 best_of m p (q ∷ qs) = best_of m (pick (is_better m q p) q p) qs
 
 abbrev pub best : Measured → List Profile → Result Profile
-best m [] = refused not_stored
-best m (p ∷ ps) = done (best_of m p ps)
+best m [] = Err not_stored
+best m (p ∷ ps) = Ok (best_of m p ps)
 
 -- the best of those that are within reach
 abbrev pub nearest_in : Measured → List Profile → Result Profile

@@ -1,8 +1,9 @@
 -- What a suggestion owes to everything that is stored (document 02, M-105), of every program that meets the contract.
 -- The proofs stand in proofs/Theorems.antt and proofs/Reached.antt.
 -- Assumes nothing.
-use Rattle.std.specs.Prelude.{◌≡◌, true, List, [], ◌∷◌, ◌++◌, ◌⊎◌, ℕ, ◌≤◌, ◌<◌, T, length, drop}
-use Rattle.outcome.specs.Result.{done}
+use Rattle.std.specs.Prelude.{◌≡◌, true, List, [], ◌++◌, ℕ, ◌≤◌, ◌<◌, T, length, drop}
+use Rattle.outcome.specs.Lists.{In}
+use Rattle.outcome.specs.Result.{Ok}
 use Rattle.profile.specs.declared.Profile.{Profile}
 use Rattle.profile.specs.Rules.{Class, valid}
 use Rattle.profile.specs.Line.{longest, line_of}
@@ -12,11 +13,6 @@ use Rattle.store.specs.Calls.{lookup_in}
 use Rattle.store.specs.Reached.{Call, Reached, model}
 use Rattle.nearest.specs.declared.Measured.{Measured}
 use Rattle.nearest.specs.Nearest.{measured_of, measured_ok, far_from, is_of, reach, nearest_in, Suggests}
-
--- the profile is one of these
-abbrev pub In : Profile → List Profile → Type 0
-In p [] = ⊥
-In p (q ∷ qs) = (p ≡ q) ⊎ In p qs
 
 -- ---- against all that is stored
 
@@ -80,8 +76,8 @@ device_for m class = record { country = m.country; class = class; hertz = m.hert
 -- device that is set to its class looks it up.
 pub record NearestHolds (table : List Class) (calls : List Call) (ps : List Profile) (m : Measured) : Type 0 where
   pub as_map : nearest_in m ps ≡ nearest_in m (model [] calls)
-  pub looked_up : (p : Profile) → nearest_in m ps ≡ done p
-      → T (valid table p) × (lookup_in table (device_for m p.class) ps ≡ done p)
+  pub looked_up : (p : Profile) → nearest_in m ps ≡ Ok p
+      → T (valid table p) × (lookup_in table (device_for m p.class) ps ≡ Ok p)
 
 abbrev pub ReachedNearest : Type 0
 ReachedNearest =

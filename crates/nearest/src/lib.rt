@@ -4,16 +4,17 @@
 
 pub mod search;
 
-ghost use Rattle.std.specs.Prelude.{◌≡◌, length};
+ghost use Rattle.std.specs.Prelude.{◌≡◌, ℕ, length};
+ghost use Rattle.outcome.specs.Result.{number_in, length_in};
 ghost use Rattle.nearest.specs.Nearest.{measured_of, measured_ok, SuggestsByStore};
 
 use image::write_profile_line;
-use outcome::{BAD_DEVICE, BAD_SIZE, NOT_STORED};
+use outcome::Refusal;
 use profile::rules::{country_obeys, is_nominal_hertz};
 use profile::{Country, LONGEST};
 use search::find_nearest;
-use store::slots::profile_at;
-use store::{CAPACITY, SLOTS_SIZE, STORE_SIZE};
+use store::STORE_SIZE;
+use store::slots::StoreImage;
 
 // The greatest voltage that may be measured.
 pub const MOST_VOLTS: u32 = 2000;
@@ -30,17 +31,11 @@ pub struct Measured {
 }
 
 // Two letters A to Z, 50 or 60 hertz, and volts that may be measured.
+#[tactic(auto, unfolding(crate::specs::Nearest::measured_ok))]
 fn measured_ok(m: Measured) -> bool
     ensures { result ≡ measured_ok m }
 {
-    let country = m.country;
-    if !country_obeys(country) {
-        return false;
-    }
-    if !is_nominal_hertz(m.hertz) {
-        return false;
-    }
-    m.volts <= MOST_VOLTS
+    country_obeys(m.country) && is_nominal_hertz(m.hertz) && m.volts <= MOST_VOLTS
 }
 
 // Two bytes and two numbers as a measurement.
@@ -48,45 +43,43 @@ fn measured_of(country: &[u8], hertz: u32, volts: u32) -> Measured
     requires { length country.now ≡ 2 }
     ensures { result ≡ measured_of country.now hertz volts }
 {
-    let letters = Country {
+    let country = Country {
         first: country[0],
         second: country[1],
     };
     Measured {
-        country: letters,
-        hertz: hertz,
-        volts: volts,
+        country,
+        hertz,
+        volts,
     }
 }
 
-// Writes the line of the stored profile of a country and hertz whose nominal volts are nearest to the measured ones.
+// Writes the line of the stored profile of a country and hertz whose nominal volts are nearest to the measured ones, and
+// returns its length.
 pub fn nearest(
     store: &[u8],
     country: &[u8],
     hertz: u32,
     volts: u32,
     out: &mut [u8],
-    length: &mut usize,
-) -> u8
-    ensures { SuggestsByStore store.now country.now hertz volts
-        out.old length.old result out.new length.new }
+) -> Result<usize, Refusal>
+    ensures { (before : ℕ) → SuggestsByStore store.now country.now hertz volts
+        out.old before (number_in result) out.new (length_in before result) }
 {
     if country.len() != 2 {
-        return BAD_DEVICE;
+        return Err(Refusal::BadDevice);
     }
     let measured = measured_of(country, hertz, volts);
     if !measured_ok(measured) {
-        return BAD_DEVICE;
+        return Err(Refusal::BadDevice);
     }
     if store.len() != STORE_SIZE {
-        return BAD_SIZE;
+        return Err(Refusal::BadSize);
     }
     if out.len() != LONGEST {
-        return BAD_SIZE;
+        return Err(Refusal::BadSize);
     }
-    let i = find_nearest(store, measured);
-    if i >= CAPACITY {
-        return NOT_STORED;
-    }
-    write_profile_line(&store[SLOTS_SIZE..], profile_at(store, i), out, length)
+    let store = StoreImage { bytes: store };
+    let slot = find_nearest(store, measured).ok_or(Refusal::NotStored)?;
+    write_profile_line(store.table(), store.profile_at(slot), out)
 }

@@ -1,101 +1,75 @@
 // The search through the slots of a store's image. It reads the bytes of a slot that decide, and not the profile.
-ghost use Rattle.std.specs.Prelude.{◌≡◌, ◌<◌, length};
-ghost use Rattle.image.specs.Image.{profile_size, profile_of};
-ghost use Rattle.store.specs.Stored.{capacity, store_size, slot_of, slot_bytes, stored};
+ghost use Rattle.std.specs.Prelude.{◌≡◌};
+ghost use Rattle.image.specs.Image.{profile_of};
+ghost use Rattle.store.specs.Stored.{slot_of, slot_bytes, stored};
 ghost use Rattle.nearest.specs.Nearest.{distance as apart, wins_tie, is_better, nearest_in};
 ghost use Rattle.nearest.specs.InnerSearch.{near_slot, in_slot, seen};
 
 use super::{Measured, REACH};
 use image::PROFILE_SIZE;
+use store::slots::{Slot, StoreImage, key_at};
 use store::{CAPACITY, is_used};
 use words::word_at;
 
-// How far apart two voltages are.
-fn distance(a: u32, b: u32) -> u32
-    ensures { result ≡ apart a b }
+// How far the volts of a slot's profile are from the measured ones.
+#[tactic(auto, unfolding(image::specs::Image::profile_of))]
+fn distance(slot: &[u8; PROFILE_SIZE], m: Measured) -> u32
+    ensures { result ≡ apart (profile_of slot.now).volts m.volts }
 {
-    if a < b {
-        return b - a;
-    }
-    a - b
+    word_at(slot, 8).abs_diff(m.volts)
 }
 
 // The slot holds a profile of the country and the hertz that is within reach.
-fn slot_near(slot: &[u8], m: Measured) -> bool
-    requires { length slot.now ≡ profile_size }
+#[tactic(auto, unfolding(crate::specs::Nearest::is_of))]
+fn slot_near(slot: &[u8; PROFILE_SIZE], m: Measured) -> bool
     ensures { result ≡ near_slot m (slot_of slot.now) }
 {
-    if !is_used(slot) {
-        return false;
-    }
-    if slot[1] != m.country.first {
-        return false;
-    }
-    if slot[2] != m.country.second {
-        return false;
-    }
-    if word_at(slot, 12) != m.hertz {
-        return false;
-    }
-    distance(word_at(slot, 8), m.volts) <= REACH
+    let key = key_at(slot);
+    is_used(slot) && key.country == m.country && key.hertz == m.hertz && distance(slot, m) <= REACH
 }
 
 // Of two that are equally far the lower nominal volts win.
-fn wins_tie(slot: &[u8], held: &[u8]) -> bool
-    requires slot_len { length slot.now ≡ profile_size }
-    requires held_len { length held.now ≡ profile_size }
+#[tactic(auto, unfolding(image::specs::Image::profile_of))]
+fn wins_tie(slot: &[u8; PROFILE_SIZE], held: &[u8; PROFILE_SIZE]) -> bool
     ensures { result ≡ wins_tie (profile_of slot.now) (profile_of held.now) }
 {
     word_at(slot, 8) < word_at(held, 8)
 }
 
 // The slot's profile is nearer than the one held, or as far and wins the tie.
-fn is_better(slot: &[u8], held: &[u8], m: Measured) -> bool
-    requires slot_len { length slot.now ≡ profile_size }
-    requires held_len { length held.now ≡ profile_size }
+#[tactic(auto, unfolding(crate::specs::Nearest::is_better))]
+fn is_better(slot: &[u8; PROFILE_SIZE], held: &[u8; PROFILE_SIZE], m: Measured) -> bool
     ensures { result ≡ is_better m (profile_of slot.now) (profile_of held.now) }
 {
-    let far = distance(word_at(slot, 8), m.volts);
-    let held_far = distance(word_at(held, 8), m.volts);
-    if far != held_far {
-        return far < held_far;
-    }
-    wins_tie(slot, held)
+    let far = distance(slot, m);
+    let held_far = distance(held, m);
+    far < held_far || far == held_far && wins_tie(slot, held)
 }
 
-// The place of the better one of the slot held and slot i. Where no slot is held, `held` is the number of slots.
-fn better_slot(store: &[u8], m: Measured, held: usize, i: usize) -> usize
-    requires store_len { length store.now ≡ store_size }
-    requires i_lt_capacity { i < capacity }
-    ensures { in_slot result store.now
-        ≡ seen m (in_slot held store.now) (slot_of (slot_bytes i store.now)) }
+// The better one of the slot held, if any, and another slot.
+#[tactic(auto, unfolding(crate::specs::InnerSearch::seen))]
+fn better_slot(store: StoreImage, m: Measured, held: Option<Slot>, slot: Slot) -> Option<Slot>
+    ensures { in_slot result store.entry.bytes.now
+        ≡ seen m (in_slot held store.entry.bytes.now)
+        (slot_of (slot_bytes slot.place store.entry.bytes.now)) }
 {
-    let at = PROFILE_SIZE * i;
-    let end = at + PROFILE_SIZE;
-    if !slot_near(&store[at..end], m) {
+    if !slot_near(store.slot(slot), m) {
         return held;
     }
-    if held >= CAPACITY {
-        return i;
+    match held {
+        Some(other) if !is_better(store.slot(slot), store.slot(other), m) => held,
+        _ => Some(slot),
     }
-    let held_at = PROFILE_SIZE * held;
-    let held_end = held_at + PROFILE_SIZE;
-    if is_better(&store[at..end], &store[held_at..held_end], m) {
-        return i;
-    }
-    held
 }
 
-// The slot of the nearest profile, or the number of slots.
-pub fn find_nearest(store: &[u8], m: Measured) -> usize
-    requires { length store.now ≡ store_size }
-    ensures { in_slot result store.now ≡ nearest_in m (stored store.now) }
+// The slot of the nearest profile.
+#[tactic(auto, using(crate::proofs::NearLaws::seen_next, crate::proofs::NearLaws::seen_all))]
+pub fn find_nearest(store: StoreImage, m: Measured) -> Option<Slot>
+    ensures { in_slot result store.entry.bytes.now ≡ nearest_in m (stored store.entry.bytes.now) }
 {
-    let mut held = CAPACITY;
-    let mut i: usize = 0;
-    while i < CAPACITY {
-        held = better_slot(store, m, held, i);
-        i += 1;
+    let mut held = None;
+    for place in 0..CAPACITY {
+        held = better_slot(store, m, held, Slot { place: place as u8 });
     }
     held
 }

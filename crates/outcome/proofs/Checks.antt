@@ -1,5 +1,5 @@
 -- Laws on lists of checks and on what an entry answers. Assumes nothing.
-use mathlib.Core.Path.{◌≡◌, refl, sym}
+use mathlib.Core.Path.{◌≡◌, refl, ◌∙◌, sym}
 use mathlib.Core.Bool.{Bool, true, false}
 use mathlib.Core.List.{List, [], ◌∷◌, ◌++◌}
 use Prim.Native.Nat.{ℕ, suc}
@@ -9,16 +9,45 @@ use Rattle.outcome.specs.Answer.{
   Check,
   ◌unless◌,
   Refusal,
-  refusal,
+  BadSize,
+  ShortDraw,
+  BadField,
+  Mismatch,
+  BadProfile,
+  OtherDevice,
+  OldSerial,
+  StoreFull,
+  NotStored,
+  BadDevice,
+  BadFormula,
+  BadStep,
+  BadTable,
+  StoreInUse,
   first_refusal,
   Passed,
   number_of,
   Answers,
 }
 
--- a refusal's number is never 0
-number_positive : (r : Refusal) → number_of r ≡ 0 → ⊥
-number_positive (refusal k) e = let h : ◌≡◌ {A = ℕ} (suc k) 0 = e in omega arith
+-- the number of a refusal is above 0
+pub number_suc : (r : Refusal) → (k : ℕ) × (number_of r ≡ suc k)
+number_suc BadSize = (0, refl)
+number_suc ShortDraw = (1, refl)
+number_suc BadField = (2, refl)
+number_suc Mismatch = (3, refl)
+number_suc BadProfile = (4, refl)
+number_suc OtherDevice = (5, refl)
+number_suc OldSerial = (6, refl)
+number_suc StoreFull = (7, refl)
+number_suc NotStored = (8, refl)
+number_suc BadDevice = (9, refl)
+number_suc BadFormula = (10, refl)
+number_suc BadStep = (11, refl)
+number_suc BadTable = (12, refl)
+number_suc StoreInUse = (13, refl)
+
+pub number_positive : (r : Refusal) → number_of r ≡ 0 → ⊥
+number_positive r e = let h : ◌≡◌ {A = ℕ} (suc (number_suc r).0) 0 = sym (number_suc r).1 ∙ e in omega arith
 
 -- a test that fails decides, and one that holds drops away
 pub fails : (r : Refusal) (ok : Bool) (cs : List Check) → ok ≡ false → first_refusal (r unless ok ∷ cs) ≡ number_of r
@@ -62,3 +91,7 @@ done e l = record { answer = sym e; content = l }
 
 pub refused : {cs : List Check} {made old lent : List ℕ} (k : ℕ) → first_refusal cs ≡ suc k → lent ≡ old → Answers cs made old (suc k) lent
 refused k e l = record { answer = sym e; content = rw (ne_eqb (suc k) 0 (λ z. omega arith)) l }
+
+-- the same of an entry that returns a result
+pub refuses : {cs : List Check} {made old lent : List ℕ} (r : Refusal) → number_of r ≡ first_refusal cs → lent ≡ old → Answers cs made old (number_of r) lent
+refuses r e l = record { answer = e; content = rw (ne_eqb (number_of r) 0 (number_positive r)) l }

@@ -1,13 +1,14 @@
 -- Laws on lists put together in order, on totals, and on the test that two lists are equal.
 -- Assumes nothing.
 use mathlib.Core.Path.{◌≡◌, refl, ◌∙◌}
-use mathlib.Core.Bool.{Bool, true, false}
+use mathlib.Core.Bool.{Bool, true, false, ◌&&◌}
 use mathlib.Core.List.{List, [], ◌∷◌, ◌++◌, append_assoc}
 use Prim.Native.Nat.{ℕ, zero, suc, ◌+◌, ◌<◌}
 use native.Mathlib.Nat.{not-suc-le-zero}
 use native.Mathlib.Omega.{arith}
 use borrow.Author.Tests.{eqb-true, eqb-false, eq-eqb}
 use lib.Dec.{T, eqb, eqb→eq}
+use lib.Pointwise.{pointwise}
 use lib.ListN.{length, take, drop, length-append}
 use lib.Seq.{take_at, drop_at}
 use Rattle.outcome.specs.Answer.{Check, first_refusal, pick}
@@ -99,3 +100,12 @@ same_equal (x ∷ xs) (y ∷ ys) t =
     let head : x ≡ y = eqb→eq x y parts.0 in
     let tail : xs ≡ ys = same_equal xs ys parts.1 in
     λ i. head i ∷ tail i
+
+-- the library's `==` of two slices is this test
+pub pointwise_same : (xs ys : List ℕ) → pointwise eqb xs ys ≡ same xs ys
+unfolding same
+pointwise_same [] [] = refl
+pointwise_same [] (y ∷ ys) = refl
+pointwise_same (x ∷ xs) [] = refl
+pointwise_same (x ∷ xs) (y ∷ ys) =
+    elim (eqb x y) as (λ b. (b && pointwise eqb xs ys) ≡ pick b (same xs ys) false) [ true ↦ pointwise_same xs ys | false ↦ refl ]

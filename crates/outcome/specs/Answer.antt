@@ -1,56 +1,82 @@
 -- What an entry answers: a refusal's number or 0, and the final content of what was lent.
 -- Assumes nothing.
-use Rattle.std.specs.Prelude.{◌≡◌, Bool, true, false, List, [], ◌∷◌, ◌++◌, ℕ, suc, T, eqb, length, drop}
+use Rattle.std.specs.Prelude.{◌≡◌, Bool, true, false, List, [], ◌∷◌, ◌++◌, ℕ, T, eqb, length, drop}
+pub use Rattle.outcome.specs.declared.refusal.Refusal.{Refusal}
+pub use Rattle.outcome.specs.declared.refusal.Refusal.TheVariants.{
+  BadSize,
+  ShortDraw,
+  BadField,
+  Mismatch,
+  BadProfile,
+  OtherDevice,
+  OldSerial,
+  StoreFull,
+  NotStored,
+  BadDevice,
+  BadFormula,
+  BadStep,
+  BadTable,
+  StoreInUse,
+}
 
--- a refusal is numbered from 1, so that no refusal is the answer 0
-pub data Refusal : Type 0 where
-  refusal : ℕ → Refusal
-
+-- the refusals of the table "Returned", 1 to 10, and those of document 02, each with its number; no refusal is the answer 0
 abbrev pub number_of : Refusal → ℕ
-number_of (refusal k) = suc k
+number_of BadSize = 1
+number_of ShortDraw = 2
+number_of BadField = 3
+number_of Mismatch = 4
+number_of BadProfile = 5
+number_of OtherDevice = 6
+number_of OldSerial = 7
+number_of StoreFull = 8
+number_of NotStored = 9
+number_of BadDevice = 10
+number_of BadFormula = 11
+number_of BadStep = 12
+number_of BadTable = 13
+number_of StoreInUse = 14
 
--- the refusals of the table "Returned", 1 to 10, and those of document 02
 abbrev pub bad_size : Refusal
-bad_size = refusal 0
+bad_size = BadSize
 
 abbrev pub short_draw : Refusal
-short_draw = refusal 1
+short_draw = ShortDraw
 
 abbrev pub bad_field : Refusal
-bad_field = refusal 2
+bad_field = BadField
 
 abbrev pub mismatch : Refusal
-mismatch = refusal 3
+mismatch = Mismatch
 
 abbrev pub bad_profile : Refusal
-bad_profile = refusal 4
+bad_profile = BadProfile
 
 abbrev pub other_device : Refusal
-other_device = refusal 5
+other_device = OtherDevice
 
 abbrev pub old_serial : Refusal
-old_serial = refusal 6
+old_serial = OldSerial
 
 abbrev pub store_full : Refusal
-store_full = refusal 7
+store_full = StoreFull
 
 abbrev pub not_stored : Refusal
-not_stored = refusal 8
+not_stored = NotStored
 
 abbrev pub bad_device : Refusal
-bad_device = refusal 9
+bad_device = BadDevice
 
 abbrev pub bad_formula : Refusal
-bad_formula = refusal 10
+bad_formula = BadFormula
 
 abbrev pub bad_step : Refusal
-bad_step = refusal 11
+bad_step = BadStep
 
 abbrev pub bad_table : Refusal
-bad_table = refusal 12
+bad_table = BadTable
 
 abbrev pub store_in_use : Refusal
-store_in_use = refusal 13
+store_in_use = StoreInUse
 
 abbrev pub pick {ℓ} : {A : Type ℓ} → Bool → A → A → A
 pick true a b = a

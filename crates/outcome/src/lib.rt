@@ -1,30 +1,43 @@
 // Refusals and their numbers, as the definitions in specs/ and the C header have them. An answer of 0 is none.
 #![tactic(auto)]
 
-pub const BAD_SIZE: u8 = 1;
+pub mod refusal;
 
-pub const SHORT_DRAW: u8 = 2;
+ghost use Rattle.std.specs.Prelude.{◌≡◌};
+ghost use Rattle.outcome.specs.Answer.{number_of};
+ghost use Rattle.outcome.specs.Result.{number_in, length_in};
 
-pub const BAD_FIELD: u8 = 3;
+pub use refusal::Refusal;
 
-pub const MISMATCH: u8 = 4;
+impl Refusal {
+    // The number of the table "Returned".
+    pub fn number(self) -> u8
+        ensures { result ≡ number_of self }
+    {
+        self as u8
+    }
+}
 
-pub const BAD_PROFILE: u8 = 5;
+// What C gets: the refusal's number, or 0.
+pub fn number_in(answer: Result<(), Refusal>) -> u8
+    ensures { result ≡ number_in answer }
+{
+    match answer {
+        Ok(()) => 0,
+        Err(refusal) => refusal.number(),
+    }
+}
 
-pub const OTHER_DEVICE: u8 = 6;
-
-pub const OLD_SERIAL: u8 = 7;
-
-pub const STORE_FULL: u8 = 8;
-
-pub const NOT_STORED: u8 = 9;
-
-pub const BAD_DEVICE: u8 = 10;
-
-pub const BAD_FORMULA: u8 = 11;
-
-pub const BAD_STEP: u8 = 12;
-
-pub const BAD_TABLE: u8 = 13;
-
-pub const STORE_IN_USE: u8 = 14;
+// The same of an answer with a length: C's variable holds it, unless a refusal leaves what it held.
+pub fn store_length(answer: Result<usize, Refusal>, length: &mut usize) -> u8
+    ensures number { result ≡ number_in answer }
+    ensures length { length.new ≡ length_in length.old answer }
+{
+    match answer {
+        Ok(n) => {
+            *length = n;
+            0
+        }
+        Err(refusal) => refusal.number(),
+    }
+}

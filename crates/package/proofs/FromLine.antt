@@ -1,11 +1,11 @@
 -- A package of a line is one of the profile that the line means. Assumes nothing.
-use mathlib.Core.Path.{◌≡◌, refl, ◌∙◌, sym}
+use mathlib.Core.Path.{◌≡◌, ◌∙◌, sym}
 use mathlib.Core.List.{List, [], ◌∷◌, ◌++◌}
 use Prim.Native.Nat.{ℕ}
-use native.Mathlib.Omega.{arith}
 use lib.ListN.{length}
-use Rattle.outcome.specs.Answer.{refusal, bad_profile, Check, ◌unless◌, first_refusal}
-use Rattle.outcome.specs.Result.{Result, done, refused, refusal_in}
+use Rattle.outcome.specs.Answer.{bad_profile, Check, ◌unless◌, first_refusal}
+use Rattle.outcome.specs.Result.{Ok, refusal_in}
+use Rattle.outcome.proofs.Results.{result_done}
 use Rattle.outcome.proofs.Checks.{answered, both_passed, passed_front}
 use Rattle.parameters.specs.declared.Params.{Params}
 use Rattle.profile.specs.declared.Profile.{Profile}
@@ -17,23 +17,18 @@ use Rattle.scheme.specs.Sign.{signature_size, sign_checks}
 use Rattle.package.specs.Package.{make_sizes, make_checks, make_from_line_checks}
 use Rattle.package.specs.Entries.{MakesPackage, MakesFromLine}
 
--- what was read, where reading does not refuse
-read_done : {A : Type 0} (x : Result A) → first_refusal (refusal_in x) ≡ 0 → (a : A) × (x ≡ done a)
-read_done (done a) e = (a, refl)
-read_done (refused (refusal k)) e = absurd (omega arith)
-
 -- what the answer 0 of making from a line says
 pub record Made (p : Params) (table private master salt line lent : List ℕ) (before : ℕ)
     (sealed : List ℕ) (size : ℕ) : Type 0 where
   pub profile : Profile
-  pub read : read_line (table_of table) line ≡ done profile
+  pub read : read_line (table_of table) line ≡ Ok profile
   pub signed : first_refusal (sign_checks p private master salt line (signature_size p)) ≡ 0
   pub makes : MakesPackage p table private master salt profile lent before 0 sealed size
 
 module _ (p : Params) (table private master salt line : List ℕ) where
   record Passes (lent : ℕ) : Type 0 where
     profile : Profile
-    read : read_line (table_of table) line ≡ done profile
+    read : read_line (table_of table) line ≡ Ok profile
     signed : first_refusal (sign_checks p private master salt line (signature_size p)) ≡ 0
     same_checks : first_refusal (make_checks p table private master salt profile lent) ≡ 0
 
@@ -44,7 +39,7 @@ module _ (p : Params) (table private master salt line : List ℕ) where
       let reading : List Check = refusal_in (read_line (table_of table) line) in
       let all = both_passed (sizes ++ reading) (sign_checks p private master salt line (signature_size p)) e in
       let front = both_passed sizes reading all.0 in
-      let found = read_done (read_line (table_of table) line) front.1 in
+      let found = result_done (read_line (table_of table) line) front.1 in
       let back = writes_read (table_of table) line found.0 found.1 in
       let rule : List Check = bad_profile unless valid (table_of table) found.0 ∷ [] in
       let holds : first_refusal rule ≡ 0 = answered rule (back.1, tt) in

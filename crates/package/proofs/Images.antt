@@ -10,7 +10,7 @@ use lib.ListN.{length, take, drop, replicate, length-replicate, take-append-drop
 use lib.Seq.{take_at}
 use borrow.Author.Tests.{eqb-true, eq-eqb}
 use Rattle.outcome.specs.Answer.{bad_size, not_stored, bad_device, ◌unless◌, first_refusal, AnswersFront}
-use Rattle.outcome.specs.Result.{Result, done, refused}
+use Rattle.outcome.specs.Result.{Result, Ok, Err}
 use Rattle.outcome.proofs.Checks.{passed}
 use Rattle.parameters.specs.declared.Params.{Params}
 use Rattle.parameters.specs.Sound.{Sound}
@@ -60,7 +60,7 @@ use Rattle.package.proofs.InMap.{as_found}
 
 module _ (image country : List ℕ) (class hertz : ℕ) (profile : Profile) (two : length country ≡ 2)
     (fine : device_ok (classes_of image) (device_of country class hertz) ≡ true) (size : length image ≡ store_size)
-    (found : found_in (classes_of image) image country class hertz ≡ done profile) (ok : T (valid (classes_of image) profile))
+    (found : found_in (classes_of image) image country class hertz ≡ Ok profile) (ok : T (valid (classes_of image) profile))
   where
     pub finds_line : FindsLine image country class hertz (line_of profile)
     finds_line old before answer lent after room looks =
@@ -79,7 +79,7 @@ module _ (image country : List ℕ) (class hertz : ℕ) (profile : Profile) (two
 -- an accepted load keeps the table, and what is looked up by the one before is looked up by the one after
 loaded_line : (country : List ℕ) (class hertz : ℕ) (profile : Profile) (old new : List ℕ) → length country ≡ 2
     → device_ok (classes_of old) (device_of country class hertz) ≡ true → length old ≡ store_size → {q : Profile} → Taken q old new
-    → T (valid (classes_of old) profile) → found_in (classes_of old) new country class hertz ≡ done profile
+    → T (valid (classes_of old) profile) → found_in (classes_of old) new country class hertz ≡ Ok profile
     → FindsLine new country class hertz (line_of profile)
 loaded_line country class hertz profile old new two fine whole {q} taken ok found =
     let same : classes_of new ≡ classes_of old = ap table_of (table_kept q old new whole taken) in
@@ -143,7 +143,7 @@ module _ (offers : List Offer) (image : List ℕ) (run : MadeBy offers image) wh
     found_map fine = lookup_sound table device (stored image) fine ∙ held.as_map (device_key device)
 
     -- what is found is valid
-    valid_here : (p : Profile) → found_in table image country class hertz ≡ done p → T (valid table p)
+    valid_here : (p : Profile) → found_in table image country class hertz ≡ Ok p → T (valid table p)
     valid_here p e =
         find_valid table (device_key device) (stored image) p held.all_valid
         (lookup_find table device (stored image) p e)
@@ -196,9 +196,9 @@ none_broken offers image country class hertz old before answer lent after run lo
 -- ---- what a lookup finds came in by a load
 
 -- a result that is there
-the_done : (r : Result Profile) → T (is_done r) → (q : Profile) × (r ≡ done q)
-the_done (done q) t = (q, refl)
-the_done (refused r) t = absurd t
+the_done : (r : Result Profile) → T (is_done r) → (q : Profile) × (r ≡ Ok q)
+the_done (Ok q) t = (q, refl)
+the_done (Err r) t = absurd t
 
 -- a load that was answered 0 and stored q: its line is that of q, and is signed
 came_in : (offers : List Offer) (country : List ℕ) (class hertz : ℕ) (q : Profile) (line : List ℕ)
@@ -235,7 +235,7 @@ looked_up_came_in offers image country class hertz old before answer lent after 
     let tests = passed (lookup_line_checks table image country class hertz old) (sym looks.answers.answer ∙ e) in
     let found = the_done (found_in table image country class hertz) tests.1.1.1.1.0 in
     let q = found.0 in
-    let stands : find (device_key device) (stored image) ≡ done q =
+    let stands : find (device_key device) (stored image) ≡ Ok q =
     lookup_find table device (stored image) q found.1 in
     let content = rw (e, found.1) at looks.answers.content in
     let long = rw (e, found.1) at looks.size in
@@ -246,10 +246,10 @@ looked_up_came_in offers image country class hertz old before answer lent after 
     (from (run_found offers (replicate store_size 0) image size run (device_key device) q stands))
   where
     from : {k : Key} {q : Profile}
-        → (find k (stored (replicate store_size 0)) ≡ done q) ⊎ Stored (replicate store_size 0) offers k q
+        → (find k (stored (replicate store_size 0)) ≡ Ok q) ⊎ Stored (replicate store_size 0) offers k q
         → Stored (replicate store_size 0) offers k q
     from {k} {q} (inl g) =
-        let never : find k [] ≡ done q = subst (λ (ps : List Profile). find k ps ≡ done q) zeros_empty g in
+        let never : find k [] ≡ Ok q = subst (λ (ps : List Profile). find k ps ≡ Ok q) zeros_empty g in
         let z : ◌≡◌ {A = ℕ} 0 1 = cc in
         absurd (omega arith)
     from (inr w) = w

@@ -7,11 +7,12 @@ use Prim.Native.Nat.{ℕ}
 use native.Mathlib.Omega.{arith}
 use lib.ListN.{length}
 use borrow.Author.Tests.{eq-eqb, ne_eqb}
-use Rattle.outcome.specs.Answer.{Check, first_refusal}
+use Rattle.outcome.specs.declared.refusal.Refusal.{Refusal}
+use Rattle.outcome.specs.Answer.{number_of, Check, first_refusal}
 use Rattle.parameters.specs.declared.Params.{Params}
 use Rattle.profile.specs.declared.Profile.{Profile}
-use Rattle.outcome.specs.Result.{done}
-use Rattle.outcome.proofs.Checks.{both_passed, passed_front}
+use Rattle.outcome.specs.Result.{Ok, Err}
+use Rattle.outcome.proofs.Checks.{number_positive, both_passed, passed_front}
 use Rattle.profile.specs.Rules.{Class}
 use Rattle.profile.proofs.Theorems.{writes_read}
 use Rattle.image.specs.Image.{has_image}
@@ -22,17 +23,15 @@ use Rattle.store.specs.Keys.{device_of, device_ok}
 use Rattle.store.specs.Stored.{store_size, stored}
 use Rattle.store.specs.Calls.{put_number, Puts}
 use Rattle.store.proofs.PutLaws.{put_number_lem, put_sized}
-use Rattle.package.specs.declared.load.Opened.TheVariants as opening
 use Rattle.package.specs.Package.{store_checks, line_in, open_checks, opened, load_checks}
 use Rattle.package.specs.Entries.{Opens, Loads}
 use Rattle.package.proofs.OpenLaws.{opened_number, opened_passed, refusal_opened, profile_opened}
 
 -- what was opened is valid, and so an image can mean it
 opened_kinds : (p : Params) (table : List Class) (key sealed : List ℕ) {profile : Profile}
-    → Opens p table key sealed (opening.Profile profile) → has_image profile ≡ true
+    → Opens p table key sealed (Ok profile) → has_image profile ≡ true
 opened_kinds p table key sealed {profile} opens =
-    let found = profile_opened p table key sealed opens in
-    let read = sym (opened_passed p table key sealed found.0) ∙ found.1 in
+    let read = sym (opened_passed p table key sealed (profile_opened p table key sealed opens)) ∙ sym opens in
     (valid_fits table profile (writes_read table (line_in p sealed) profile read).1).kinds
 
 module _ (p : Params) (table : List Class) (key sealed country : List ℕ) (class hertz : ℕ) (old : List ℕ) where
@@ -77,7 +76,7 @@ module _ (p : Params) (table : List Class) (key sealed country : List ℕ) (clas
         behind = rw (eq-eqb (length country) 2 two, set, eq-eqb (length old) store_size size)
 
         -- of a package that opens, storing decides
-        pub load_number : (profile : Profile) → opened p table key sealed ≡ done profile
+        pub load_number : (profile : Profile) → opened p table key sealed ≡ Ok profile
             → first_refusal All ≡ put_number device profile (stored old)
         load_number profile found =
             let zero : first_refusal Opening ≡ 0 = sym (opened_number p table key sealed) ∙ rw found refl in
@@ -87,25 +86,26 @@ module _ (p : Params) (table : List Class) (key sealed country : List ℕ) (clas
         pub load_opens : first_refusal All ≡ 0 → first_refusal Opening ≡ 0
         load_opens e = (both_passed Opening Storing (sym behind ∙ e)).0
 
-        pub load_refused : {k : ℕ} → Opens p table key sealed (opening.Refused k) → Answered k old
-        load_refused {k} opens =
-            let refusal = refusal_opened p table key sealed opens in
-            refuses k (stops Opening Storing refusal.0 refusal.1 ∙ sym behind) refusal.1
+        pub load_refused : (q : Refusal) → Opens p table key sealed (Err q) → Answered (number_of q) old
+        load_refused q opens =
+            refuses (number_of q)
+            (stops Opening Storing (refusal_opened p table key sealed opens) (number_positive q) ∙ sym behind)
+            (number_positive q)
 
         -- for the device that the program made of country, class and hertz
         pub load_put : {profile : Profile} {r : ℕ} {new : List ℕ} (its : Device) → its ≡ device
-            → Opens p table key sealed (opening.Profile profile) → Puts its profile old r new → Answered r new
+            → Opens p table key sealed (Ok profile) → Puts its profile old r new → Answered r new
         load_put {profile} {r} {new} its same opens done_with =
             let puts : Puts device profile old r new =
             subst (λ (d : Device). Puts d profile old r new) same done_with in
             let found = profile_opened p table key sealed opens in
             let storing : r ≡ first_refusal Storing =
-            rw found.1
+            rw (← opens)
             (puts.answer
             ∙ (put_sized device profile old size (opened_kinds p table key sealed opens)
             ∙ put_number_lem device profile (stored old))) in
             record {
-              answers = goes_on Opening Storing (sym found.0) refl storing ∙ sym behind;
-              taken = λ z. (profile, sym (opened_passed p table key sealed found.0) ∙ found.1, puts.taken z);
+              answers = goes_on Opening Storing (sym found) refl storing ∙ sym behind;
+              taken = λ z. (profile, sym (opened_passed p table key sealed found) ∙ sym opens, puts.taken z);
               kept = puts.kept;
             }

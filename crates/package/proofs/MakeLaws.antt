@@ -1,6 +1,6 @@
 -- What making a package answers, by the first check that fails, and the bytes that it leaves. Assumes nothing.
 use mathlib.Core.Path.{◌≡◌, refl, ◌∙◌, sym, ap, subst}
-use mathlib.Core.Bool.{Bool, true, false}
+use mathlib.Core.Bool.{true}
 use mathlib.Core.List.{List, [], ◌∷◌, ◌++◌}
 use Prim.Native.Nat.{ℕ, ◌+◌, ◌-◌, ◌≤◌}
 use native.Mathlib.Omega.{arith}
@@ -9,17 +9,16 @@ use lib.ListN.{length, take, drop, length-append, take-append-drop, replicate}
 use lib.Seq.{length-take-le, take_at}
 use borrow.Author.Tests.{eq-eqb, ne_eqb, eqb-true}
 use borrow.Rule.Slice.PartMut.{put_mid}
-use Rattle.outcome.specs.Answer.{bad_size, bad_profile, Check, ◌unless◌, first_refusal, pick, Answers, AnswersFront}
-use Rattle.outcome.proofs.Checks.{passed, holds, fails}
+use Rattle.outcome.specs.declared.refusal.Refusal.{Refusal}
+use Rattle.outcome.specs.Answer.{number_of, bad_profile, Check, ◌unless◌, first_refusal, Answers, AnswersFront}
+use Rattle.outcome.proofs.Checks.{number_positive, passed, holds}
 use Rattle.parameters.specs.declared.Params.{Params}
 use Rattle.parameters.specs.Sound.{Sound}
 use Rattle.profile.specs.declared.Profile.{Profile}
-use Rattle.profile.specs.declared.WriteLine.{WriteLine}
-use Rattle.profile.specs.declared.WriteLine.TheVariants.{Written, BadSize, BadProfile}
-use Rattle.outcome.specs.Result.{done, refused, number_in, refusal_in}
+use Rattle.outcome.specs.Result.{Result, Ok, Err, number_in, refusal_in}
 use Rattle.profile.specs.Rules.{Class, valid}
 use Rattle.profile.specs.Table.{table_of}
-use Rattle.profile.specs.Line.{longest, line_of, read_line, write_checks, write_line, write_answer, Writes}
+use Rattle.profile.specs.Line.{longest, line_of, read_line, write_checks, write_line, Writes}
 use Rattle.profile.proofs.RuleLaws.{done_passed, holds as holds_test}
 use Rattle.profile.proofs.Theorems.{line_lengths_hold, writes_read}
 use Rattle.scheme.specs.Sign.{signature_size, sign_checks, signature}
@@ -110,36 +109,22 @@ room_lent p table private master salt lent ok =
 
 -- ---- from a profile
 
-never_1 : (b : Bool) → 1 ≡ pick {A = ℕ} b 0 5 → ⊥
-never_1 true e = let z : ◌≡◌ {A = ℕ} 1 0 = e in omega arith
-never_1 false e = let z : ◌≡◌ {A = ℕ} 1 5 = e in omega arith
-
-only_false : (b : Bool) → 5 ≡ pick {A = ℕ} b 0 5 → b ≡ false
-only_false true e = let z : ◌≡◌ {A = ℕ} 5 0 = e in absurd (omega arith)
-only_false false e = refl
-
 -- local bytes for the longest line, and what writing the line into them answers
 abbrev pub blank : List ℕ
 blank = replicate longest 0
 
-module _ (table : List Class) (profile : Profile) (new : List ℕ) where
-  number_written : (w : WriteLine) → Writes table profile blank w new
-      → number_in (write_answer w) ≡ pick {A = ℕ} (valid table profile) 0 5
+module _ (table : List Class) (profile : Profile) {r : Result ℕ} (new : List ℕ) (written : Writes table profile blank r new) where
+  -- only a broken rule is refused
+  broken : (q : Refusal) → r ≡ Err q → number_of q ≡ first_refusal (bad_profile unless valid table profile ∷ [])
   unfolding write_line
-  number_written w written =
-      ap number_in written.answered
+  broken q e =
+      ap number_in (sym e ∙ written.answered)
       ∙ number_answer (write_checks table profile blank) (length (line_of profile))
 
-  pub never_small : Writes table profile blank BadSize new → ⊥
-  never_small written = never_1 (valid table profile) (number_written BadSize written)
-
-  breaks : Writes table profile blank BadProfile new → valid table profile ≡ false
-  breaks written = only_false (valid table profile) (number_written BadProfile written)
-
-  module _ (n : ℕ) (written : Writes table profile blank (Written n) new) where
+  module _ (n : ℕ) (e : r ≡ Ok n) where
     found : (T (eqb (length blank) longest) × (T (valid table profile) × Unit {0})) × (length (line_of profile) ≡ n)
     unfolding write_line
-    found = done_passed (write_checks table profile blank) (length (line_of profile)) n (sym written.answered)
+    found = done_passed (write_checks table profile blank) (length (line_of profile)) n (sym written.answered ∙ e)
 
     obeyed : valid table profile ≡ true
     obeyed = holds_test _ found.0.1.0
@@ -148,7 +133,7 @@ module _ (table : List Class) (profile : Profile) (new : List ℕ) where
     written_short = omega (arith, (line_lengths_hold table profile found.0.1.0).1, found.1)
 
     held : new ≡ line_of profile ++ drop (length (line_of profile)) blank
-    held = written.content ∙ rw (← written.answered) refl
+    held = written.content ∙ rw (← written.answered, e) refl
 
     written_line : take n new ≡ line_of profile
     written_line =
@@ -179,25 +164,25 @@ module _ (p : Params) (table private master salt : List ℕ) (profile : Profile)
         let lent = room_lent p table private master salt (length old) (sym tested ∙ none) in
         (lent, omega (arith, front_length n new within, long))
 
-    pub make_broken : (new : List ℕ) → Writes (table_of table) profile blank BadProfile new
-        → MakesPackage p table private master salt profile old before 5 old before
+    pub make_broken : {r : Result ℕ} (new : List ℕ) → Writes (table_of table) profile blank r new → (q : Refusal) → r ≡ Err q
+        → MakesPackage p table private master salt profile old before (number_of q) old before
     unfolding make_checks
-    make_broken new written =
-        kept (package_of p private master salt (line_of profile)) old before 5 (λ z. omega arith)
-        (by_second sizes rules signing (sym tested ∙ none) 5 (λ z. omega arith)
-        (sym (fails bad_profile (valid (table_of table) profile) [] (breaks (table_of table) profile new written))))
+    make_broken new written q e =
+        kept (package_of p private master salt (line_of profile)) old before (number_of q) (number_positive q)
+        (by_second sizes rules signing (sym tested ∙ none) (number_of q) (number_positive q)
+        (broken (table_of table) profile new written q e))
 
-    pub make_sealed : (new : List ℕ) (n : ℕ) → Writes (table_of table) profile blank (Written n) new
+    pub make_sealed : {r : Result ℕ} (new : List ℕ) → Writes (table_of table) profile blank r new → (n : ℕ) → r ≡ Ok n
         → {k after : ℕ} {out : List ℕ} → Seals p private master salt (take n new) old before k out after
         → MakesPackage p table private master salt profile old before k out after
     unfolding make_checks
-    make_sealed new n written {k} {after} {out} sealed =
+    make_sealed new written n e {k} {after} {out} sealed =
         front_as {cs = signing} {ds = sizes ++ rules ++ signing}
         (by_third sizes rules signing (sym tested ∙ none)
-        (holds bad_profile (valid (table_of table) profile) [] (obeyed (table_of table) profile new n written)))
+        (holds bad_profile (valid (table_of table) profile) [] (obeyed (table_of table) profile new written n e)))
         (λ _. refl)
         (subst (λ (l : List ℕ). Seals p private master salt l old before k out after)
-        (written_line (table_of table) profile new n written) sealed)
+        (written_line (table_of table) profile new written n e) sealed)
 
 -- ---- from a line
 
@@ -225,15 +210,11 @@ module _ (p : Params) (table private master salt line old : List ℕ) (before : 
         kept (package_of p private master salt line) old before k some
         (by_second line_sizes reading line_signing (sym tested ∙ none) k some e)
 
-    pub make_line_short : refused bad_size ≡ read_line (table_of table) line
-        → MakesFromLine p table private master salt line old before 1 old before
-    make_line_short read = refuses 1 (λ z. omega arith) (rw (← read) refl)
+    pub make_line_broken : (q : Refusal) → Err q ≡ read_line (table_of table) line
+        → MakesFromLine p table private master salt line old before (number_of q) old before
+    make_line_broken q read = refuses (number_of q) (number_positive q) (rw (← read) refl)
 
-    pub make_line_broken : refused bad_profile ≡ read_line (table_of table) line
-        → MakesFromLine p table private master salt line old before 5 old before
-    make_line_broken read = refuses 5 (λ z. omega arith) (rw (← read) refl)
-
-    module _ (profile : Profile) (read : done profile ≡ read_line (table_of table) line) where
+    module _ (profile : Profile) (read : Ok profile ≡ read_line (table_of table) line) where
       pub read_room : Room p line old
       read_room =
           let back = writes_read (table_of table) line profile (sym read) in

@@ -3,14 +3,16 @@
 use mathlib.Core.Path.{◌≡◌, refl, ◌∙◌, sym, ap, subst}
 use mathlib.Core.Bool.{true, false, ◌&&◌}
 use mathlib.Core.List.{List, [], ◌∷◌, ◌++◌, append_assoc}
-use Prim.Native.Nat.{ℕ, suc, ◌-◌, ◌≤◌}
+use Prim.Native.Nat.{ℕ, ◌-◌, ◌≤◌}
 use native.Mathlib.Omega.{arith}
 use lib.Dec.{T, leb, leb→le}
 use lib.ListN.{length, take, drop}
 use borrow.Author.Rules.{part_to_end}
-use Rattle.outcome.specs.Answer.{Refusal, refusal, number_of, Check, ◌unless◌, first_refusal}
-use Rattle.outcome.specs.Result.{Result, done, refused, number_in, values_in, refusal_in}
-use Rattle.outcome.proofs.Checks.{passed}
+use Rattle.outcome.specs.declared.refusal.Refusal.{Refusal}
+use Rattle.outcome.specs.Answer.{number_of, Check, ◌unless◌, first_refusal}
+use Rattle.outcome.specs.Result.{Result, Ok, Err, number_in, refusal_in}
+use Rattle.outcome.proofs.Checks.{number_positive, passed}
+use Rattle.outcome.proofs.Results.{result_refused}
 use Rattle.parameters.specs.declared.Params.{Params}
 use Rattle.profile.specs.declared.Profile.{Profile}
 use Rattle.profile.specs.Rules.{Class}
@@ -20,7 +22,6 @@ use Rattle.scheme.specs.Verify.{verify_checks, verify}
 use Rattle.outcome.proofs.Answering.{stops, goes_on}
 use Rattle.outcome.proofs.Computed.{both_left}
 use Rattle.store.specs.Calls.{after}
-use Rattle.package.specs.declared.load.Opened.TheVariants as opening
 use Rattle.package.specs.Package.{package_min, package_max, signature_in, line_in, open_sizes, open_checks, opened}
 use Rattle.package.specs.Entries.{Opens}
 
@@ -59,21 +60,9 @@ module _ (p : Params) (sealed : List ℕ) (n : ℕ) (size : n ≡ signature_size
       → x ≡ read_line table (line_in p sealed)
   read_part table e = e ∙ ap (λ (line : List ℕ). read_line table line) line_part
 
--- ---- a result, by its number and its value
+-- ---- a result behind checks
 
 module _ {A : Type 0} where
-  no_value : (x : Result A) → (number_in x ≡ 0 → ⊥) → [] ≡ values_in x
-  no_value (done a) some = absurd (some refl)
-  no_value (refused r) some = refl
-
-  never_zero : (x : Result A) → [] ≡ values_in x → number_in x ≡ 0 → ⊥
-  never_zero (done a) none e = let z : ◌≡◌ {A = ℕ} 0 1 = ap length none in omega arith
-  never_zero (refused (refusal k)) none e = let z : ◌≡◌ {A = ℕ} (suc k) 0 = e in omega arith
-
-  the_value : (x : Result A) (a : A) → a ∷ [] ≡ values_in x → x ≡ done a
-  the_value (done b) a e = let same : a ≡ b = cc in ap done (sym same)
-  the_value (refused r) a e = let z : ◌≡◌ {A = ℕ} 1 0 = ap length e in absurd (omega arith)
-
   -- checks, and then that there is a value
   after_passed : (cs : List Check) (x : Result A) → first_refusal cs ≡ 0 → after cs x ≡ x
   after_passed [] x e = refl
@@ -82,8 +71,8 @@ module _ {A : Type 0} where
 
   after_number_lem : (cs : List Check) (x : Result A)
       → number_in (after (cs ++ refusal_in x) x) ≡ first_refusal (cs ++ refusal_in x)
-  after_number_lem [] (done a) = refl
-  after_number_lem [] (refused r) = refl
+  after_number_lem [] (Ok a) = refl
+  after_number_lem [] (Err r) = refl
   after_number_lem (r unless true ∷ cs) x = after_number_lem cs x
   after_number_lem (r unless false ∷ cs) x = refl
 
@@ -113,22 +102,19 @@ module _ (p : Params) (table : List Class) (key sealed : List ℕ) where
 
   -- ---- what is answered
 
-  refuses : (k : ℕ) → k ≡ first_refusal (open_checks p table key sealed) → (k ≡ 0 → ⊥)
-      → Opens p table key sealed (opening.Refused k)
-  refuses k e some =
-      let number : k ≡ number_in (opened p table key sealed) = e ∙ sym opened_number in
-      record { number = number; value = no_value (opened p table key sealed) (λ z. some (number ∙ z)) }
+  refuses : (q : Refusal) → number_of q ≡ first_refusal (open_checks p table key sealed) → Opens p table key sealed (Err q)
+  refuses q e = sym (result_refused (opened p table key sealed) q (opened_number ∙ sym e))
 
-  pub open_sizes_lem : (k : ℕ) → k ≡ first_refusal Sizes → (k ≡ 0 → ⊥) → Opens p table key sealed (opening.Refused k)
+  pub open_sizes_lem : (q : Refusal) → number_of q ≡ first_refusal Sizes → Opens p table key sealed (Err q)
   unfolding open_checks
-  open_sizes_lem k e some = refuses k (stops Sizes (Verifying ++ Reading) e some) some
+  open_sizes_lem q e = refuses q (stops Sizes (Verifying ++ Reading) e (number_positive q))
 
   module _ (sized : first_refusal Sizes ≡ 0) where
-    pub open_verify : (k : ℕ) → k ≡ verify p key (line_in p sealed) (signature_in p sealed) → (k ≡ 0 → ⊥)
-        → Opens p table key sealed (opening.Refused k)
+    pub open_verify : (q : Refusal) → number_of q ≡ verify p key (line_in p sealed) (signature_in p sealed)
+        → Opens p table key sealed (Err q)
     unfolding open_checks verify
-    open_verify k e some =
-        refuses k (goes_on Sizes (Verifying ++ Reading) (sym sized) refl (stops Verifying Reading e some)) some
+    open_verify q e =
+        refuses q (goes_on Sizes (Verifying ++ Reading) (sym sized) refl (stops Verifying Reading e (number_positive q)))
 
     module _ (verified : verify p key (line_in p sealed) (signature_in p sealed) ≡ 0) where
       -- the line decides
@@ -136,31 +122,16 @@ module _ (p : Params) (table : List Class) (key sealed : List ℕ) where
       unfolding open_checks verify
       last e = goes_on Sizes (Verifying ++ Reading) (sym sized) refl (goes_on Verifying Reading (sym verified) refl e)
 
-      pub open_line : (q : Refusal) → refused q ≡ read_line table (line_in p sealed)
-          → Opens p table key sealed (opening.Refused (number_of q))
-      open_line q read = refuses (number_of q) (last (rw (← read) refl)) (λ e. (passed (q unless false ∷ []) e).0)
-
-      pub open_profile : (profile : Profile) → done profile ≡ read_line table (line_in p sealed)
-          → Opens p table key sealed (opening.Profile profile)
-      open_profile profile read =
-          let zero : 0 ≡ first_refusal (open_checks p table key sealed) = last (rw (← read) refl) in
-          record {
-            number = zero ∙ sym opened_number;
-            value = ap values_in (read ∙ sym (opened_passed (sym zero)));
-          }
+      pub open_line : (r : Result Profile) → r ≡ read_line table (line_in p sealed) → Opens p table key sealed r
+      open_line (Ok profile) read = read ∙ sym (opened_passed (sym (last (rw (← read) refl))))
+      open_line (Err q) read = refuses q (last (rw (← read) refl))
 
   -- ---- what an answer says
 
-  pub refusal_opened : {k : ℕ} → Opens p table key sealed (opening.Refused k)
-      → (k ≡ first_refusal (open_checks p table key sealed)) × (k ≡ 0 → ⊥)
-  refusal_opened opens = (
-    opens.number ∙ opened_number,
-    λ z. never_zero (opened p table key sealed) opens.value (sym opens.number ∙ z),
-  )
+  pub refusal_opened : {q : Refusal} → Opens p table key sealed (Err q)
+      → number_of q ≡ first_refusal (open_checks p table key sealed)
+  refusal_opened opens = ap number_in opens ∙ opened_number
 
-  pub profile_opened : {profile : Profile} → Opens p table key sealed (opening.Profile profile)
-      → (first_refusal (open_checks p table key sealed) ≡ 0) × (opened p table key sealed ≡ done profile)
-  profile_opened {profile} opens = (
-    sym opened_number ∙ sym opens.number,
-    the_value (opened p table key sealed) profile opens.value,
-  )
+  pub profile_opened : {profile : Profile} → Opens p table key sealed (Ok profile)
+      → first_refusal (open_checks p table key sealed) ≡ 0
+  profile_opened opens = sym opened_number ∙ sym (ap number_in opens)

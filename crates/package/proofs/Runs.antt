@@ -11,8 +11,9 @@ use native.Mathlib.Decide.{ℕ_discrete}
 use lib.Dec.{eqb}
 use lib.ListN.{length, replicate, length-replicate}
 use borrow.Author.Tests.{eqb-true, eq-eqb, ne_eqb}
-use Rattle.outcome.specs.Answer.{Refusal, first_refusal, pick}
-use Rattle.outcome.specs.Result.{Result, done, refused, number_in}
+use Rattle.outcome.specs.declared.refusal.Refusal.{Refusal}
+use Rattle.outcome.specs.Answer.{first_refusal, pick}
+use Rattle.outcome.specs.Result.{Result, Ok, Err, number_in}
 use Rattle.profile.specs.declared.Profile.{Profile}
 use Rattle.profile.specs.Rules.{Class, classes}
 use Rattle.profile.specs.Table.{table_of}
@@ -57,19 +58,19 @@ use Rattle.package.proofs.Theorems.{Accepted, accepted}
 
 -- ---- results
 
-one_done : {a b : Profile} → done a ≡ done b → a ≡ b
+one_done : {a b : Profile} → ◌≡◌ {A = Result Profile} (Ok a) (Ok b) → a ≡ b
 one_done e = cc
 
-never_refused : {a : Profile} {q : Refusal} → done a ≡ refused q → ⊥
-never_refused e = let z : ◌≡◌ {A = ℕ} 0 1 = cc in omega arith
+never_refused : {a : Profile} {q : Refusal} → ◌≡◌ {A = Result Profile} (Ok a) (Err q) → ⊥
+never_refused e = cc
 
 -- what was stored is there
 stores_some : {p : Profile} {ps qs : List Profile} → Stores p ps qs → qs ≡ [] → ⊥
 unfolding find
 stores_some {p} {ps} {qs} stores none =
-    let it : find (key_of p) qs ≡ done p =
+    let it : find (key_of p) qs ≡ Ok p =
     stores.finds (key_of p)
-    ∙ ap (λ (b : Bool). pick b (done p) (find (key_of p) ps)) (same_refl (key_of p)) in
+    ∙ ap (λ (b : Bool). pick b (Ok p) (find (key_of p) ps)) (same_refl (key_of p)) in
     never_refused (sym it ∙ ap (find (key_of p)) none)
 
 -- ---- one load
@@ -116,7 +117,7 @@ module _ (l : Load) (old next : List ℕ) (answer : ℕ) (size : length old ≡ 
     is_set : answer ≡ 0 → Set ≡ true
     is_set e = rw ((took e).passes.two, (took e).passes.device_ok_lem)
 
-    opens : (e : answer ≡ 0) → opening ≡ done (took e).profile
+    opens : (e : answer ≡ 0) → opening ≡ Ok (took e).profile
     opens e =
         let passes = (took e).passes in
         let two = eqb-true (length l.country) 2 passes.two in
@@ -127,7 +128,7 @@ module _ (l : Load) (old next : List ℕ) (answer : ℕ) (size : length old ≡ 
         ∙ (took e).reads
 
     -- of a package that opens the answer is that of storing
-    answered : Set ≡ true → (profile : Profile) → opening ≡ done profile
+    answered : Set ≡ true → (profile : Profile) → opening ≡ Ok profile
         → answer ≡ put_number (setting_of l) profile (stored old)
     answered set profile found =
         let sound = both_true (eqb (length l.country) 2) (device_ok table (setting_of l)) set in
@@ -136,12 +137,12 @@ module _ (l : Load) (old next : List ℕ) (answer : ℕ) (size : length old ≡ 
         ∙ load_number l.sizes table l.key l.sealed l.country l.class l.hertz old two sound.1 size
         profile found
 
-    taken_of : (profile : Profile) → opening ≡ done profile → answer ≡ 0 → Stores profile (stored old) (stored next)
+    taken_of : (profile : Profile) → opening ≡ Ok profile → answer ≡ 0 → Stores profile (stored old) (stored next)
     taken_of profile found e =
         let same : (took e).profile ≡ profile = one_done (sym (opens e) ∙ found) in
         subst (λ (q : Profile). Stores q (stored old) (stored next)) same (took e).taken.stores
 
-    valid_of : (profile : Profile) → Set ≡ true → opening ≡ done profile
+    valid_of : (profile : Profile) → Set ≡ true → opening ≡ Ok profile
         → ValidCall table (record { device = setting_of l; profile = profile })
     valid_of profile set found =
         let zero : first_refusal (open_checks l.sizes table l.key l.sealed) ≡ 0 =
@@ -162,8 +163,8 @@ module _ (l : Load) (old next : List ℕ) (answer : ℕ) (size : length old ≡ 
         go : (b : Bool) → Set ≡ b → (r : Result Profile) → opening ≡ r
             → Run table (stored old) (pick b (calls_for (setting_of l) r) []) (stored next)
         go false s r o = none (λ e. not_both Set (is_set e) s)
-        go true s (refused q) o = none (λ e. never_refused (sym (opens e) ∙ o))
-        go true s (done profile) o =
+        go true s (Err q) o = none (λ e. never_refused (sym (opens e) ∙ o))
+        go true s (Ok profile) o =
             let number = answered s profile o in (
               stored next,
               valid_of profile s o,
@@ -175,17 +176,17 @@ module _ (l : Load) (old next : List ℕ) (answer : ℕ) (size : length old ≡ 
             )
 
     -- what is found after it was found before, or it was this load that was answered 0 and stored it
-    pub load_found : (k : Key) (q : Profile) → find k (stored next) ≡ done q
-        → (find k (stored old) ≡ done q)
-        ⊎ ((answer ≡ 0) × (device_key (setting_of l) ≡ k) × (read_line table (line_in l.sizes l.sealed) ≡ done q))
+    pub load_found : (k : Key) (q : Profile) → find k (stored next) ≡ Ok q
+        → (find k (stored old) ≡ Ok q)
+        ⊎ ((answer ≡ 0) × (device_key (setting_of l) ≡ k) × (read_line table (line_in l.sizes l.sealed) ≡ Ok q))
     load_found k q f =
         by_answer (λ e. go e (same_key (key_of (took e).profile) k) refl (sym ((took e).taken.stores.finds k) ∙ f))
-        (λ same. inl (subst (λ (image : List ℕ). find k (stored image) ≡ done q) same f))
+        (λ same. inl (subst (λ (image : List ℕ). find k (stored image) ≡ Ok q) same f))
       where
         go : (e : answer ≡ 0) (b : Bool) → same_key (key_of (took e).profile) k ≡ b
-            → pick b (done (took e).profile) (find k (stored old)) ≡ done q
-            → (find k (stored old) ≡ done q)
-            ⊎ ((answer ≡ 0) × (device_key (setting_of l) ≡ k) × (read_line table (line_in l.sizes l.sealed) ≡ done q))
+            → pick b (Ok (took e).profile) (find k (stored old)) ≡ Ok q
+            → (find k (stored old) ≡ Ok q)
+            ⊎ ((answer ≡ 0) × (device_key (setting_of l) ≡ k) × (read_line table (line_in l.sizes l.sealed) ≡ Ok q))
         go e true s g =
             let t = took e in
             let own = (put_passed (setting_of l) t.profile (stored old) t.puts).0 in
@@ -238,12 +239,12 @@ module _ (bytes old next : List ℕ) (answer : ℕ) (loads : LoadsTable bytes ol
       by_file_answer (λ e. (loaded_table bytes old answer next loads e).0) (λ ne same. ap length same ∙ size)
 
   -- nothing comes into a store with a table
-  file_found : (k : Key) (q : Profile) → find k (stored next) ≡ done q → find k (stored old) ≡ done q
+  file_found : (k : Key) (q : Profile) → find k (stored next) ≡ Ok q → find k (stored old) ≡ Ok q
   unfolding find
   file_found k q f =
       by_file_answer
       (λ e. absurd (never_refused (sym f ∙ ap (find k) (loaded_table bytes old answer next loads e).2)))
-      (λ ne same. subst (λ (image : List ℕ). find k (stored image) ≡ done q) same f)
+      (λ ne same. subst (λ (image : List ℕ). find k (stored image) ≡ Ok q) same f)
 
   module _ (m : Made) (is : Makes m old) where
     -- the store is empty where the map is
@@ -255,9 +256,9 @@ module _ (bytes old next : List ℕ) (answer : ℕ) (loads : LoadsTable bytes ol
     -- a refused file: it is none, or something is stored
     refused_file : (answer ≡ 0 → ⊥) → (r : Result (List Class)) → read_table bytes ≡ r → (b : Bool) → is_empty (stored old) ≡ b
         → with_file m r ≡ m
-    refused_file ne (refused q) o b s = refl
-    refused_file ne (done rows) o false s = rw (sym empty ∙ s) refl
-    refused_file ne (done rows) o true s =
+    refused_file ne (Err q) o b s = refl
+    refused_file ne (Ok rows) o false s = rw (sym empty ∙ s) refl
+    refused_file ne (Ok rows) o true s =
         absurd (ne (loads.answer ∙ rw (eq-eqb (length old) store_size is.size, o, s)))
 
     file_makes : Makes (with_file m (read_table bytes)) next
@@ -333,7 +334,7 @@ pub record Stored (old : List ℕ) (offers : List Offer) (k : Key) (q : Profile)
   pub reached : OfferRun old earlier found
   pub answered : LoadAnswers load found 0 left
   pub device : device_key (setting_of load) ≡ k
-  pub reads : read_line (classes_of found) (line_in load.sizes load.sealed) ≡ done q
+  pub reads : read_line (classes_of found) (line_in load.sizes load.sealed) ≡ Ok q
 
 -- behind an offer
 behind : (o : Offer) (answer : ℕ) {os : List Offer} {old next : List ℕ} {k : Key} {q : Profile}
@@ -353,15 +354,15 @@ behind o answer {next = next} answers w =
     }
 
 pub run_found : (os : List Offer) (old new : List ℕ) → length old ≡ store_size → OfferRun old os new
-    → (k : Key) (q : Profile) → find k (stored new) ≡ done q → (find k (stored old) ≡ done q) ⊎ Stored old os k q
-run_found [] old new size run k q f = inl (subst (λ (image : List ℕ). find k (stored image) ≡ done q) run f)
+    → (k : Key) (q : Profile) → find k (stored new) ≡ Ok q → (find k (stored old) ≡ Ok q) ⊎ Stored old os k q
+run_found [] old new size run k q f = inl (subst (λ (image : List ℕ). find k (stored image) ≡ Ok q) run f)
 run_found (by_package l ∷ os) old new size run k q f =
     go (run_found os run.1 new (load_size l old run.1 run.0 size run.2) run.3 k q f)
   where
-    here : (find k (stored old) ≡ done q)
+    here : (find k (stored old) ≡ Ok q)
         ⊎ ((run.0 ≡ 0) × (device_key (setting_of l) ≡ k)
-        × (read_line (classes_of old) (line_in l.sizes l.sealed) ≡ done q))
-        → (find k (stored old) ≡ done q) ⊎ Stored old (by_package l ∷ os) k q
+        × (read_line (classes_of old) (line_in l.sizes l.sealed) ≡ Ok q))
+        → (find k (stored old) ≡ Ok q) ⊎ Stored old (by_package l ∷ os) k q
     here (inl g) = inl g
     here (inr w) =
         inr
@@ -378,14 +379,14 @@ run_found (by_package l ∷ os) old new size run k q f =
           reads = w.2;
         })
 
-    go : (find k (stored run.1) ≡ done q) ⊎ Stored run.1 os k q
-        → (find k (stored old) ≡ done q) ⊎ Stored old (by_package l ∷ os) k q
+    go : (find k (stored run.1) ≡ Ok q) ⊎ Stored run.1 os k q
+        → (find k (stored old) ≡ Ok q) ⊎ Stored old (by_package l ∷ os) k q
     go (inl g) = here (load_found l old run.1 run.0 size run.2 k q g)
     go (inr w) = inr (behind (by_package l) run.0 run.2 w)
 run_found (by_file bytes ∷ os) old new size run k q f =
     go (run_found os run.1 new (file_size bytes old run.1 run.0 run.2 size) run.3 k q f)
   where
-    go : (find k (stored run.1) ≡ done q) ⊎ Stored run.1 os k q
-        → (find k (stored old) ≡ done q) ⊎ Stored old (by_file bytes ∷ os) k q
+    go : (find k (stored run.1) ≡ Ok q) ⊎ Stored run.1 os k q
+        → (find k (stored old) ≡ Ok q) ⊎ Stored old (by_file bytes ∷ os) k q
     go (inl g) = inl (file_found bytes old run.1 run.0 run.2 k q g)
     go (inr w) = inr (behind (by_file bytes) run.0 run.2 w)

@@ -12,7 +12,7 @@ use Rattle.outcome.specs.Answer.{bad_size, bad_profile, bad_device, Check, ◌un
 use Rattle.outcome.proofs.Checks.{passed, passed_front, both_passed}
 use Rattle.parameters.specs.declared.Params.{Params}
 use Rattle.profile.specs.declared.Profile.{Profile}
-use Rattle.outcome.specs.Result.{done, refusal_in}
+use Rattle.outcome.specs.Result.{Ok, refusal_in}
 use Rattle.profile.specs.Rules.{Class, valid}
 use Rattle.profile.specs.Table.{table_of}
 use Rattle.profile.specs.Line.{line_of, read_line}
@@ -128,7 +128,7 @@ module _ (p : Params) (table : List Class) (key sealed country : List ℕ) (clas
 -- where a profile is read, what is left is putting it
 pub storing_put : (p : Params) (table : List Class) (sealed : List ℕ) (device : Device) (ps : List Profile)
     (profile : Profile)
-    → read_line table (line_in p sealed) ≡ done profile
+    → read_line table (line_in p sealed) ≡ Ok profile
     → first_refusal (store_checks device ps (read_line table (line_in p sealed))) ≡ put_number device profile ps
 storing_put p table sealed device ps profile read = rw read (sym (put_number_lem device profile ps))
 
@@ -163,7 +163,7 @@ module _ (p : Params) (table : List Class) (key sig country : List ℕ) (class h
       let bounds = line_lengths_hold table profile ok in
       let long : length sealed ≡ signature_size p + length (line_of profile) =
       length-append sig (line_of profile) ∙ ap (λ (k : ℕ). k + length (line_of profile)) sized in
-      let read : read_line table (line_in p sealed) ≡ done profile = rw line (reads_written table profile ok) in
+      let read : read_line table (line_in p sealed) ≡ Ok profile = rw line (reads_written table profile ok) in
       load_accepts p table key sealed country class hertz old
       (record {
         two = eq-eqb (length country) 2 two;

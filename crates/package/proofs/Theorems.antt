@@ -11,7 +11,7 @@ use Rattle.outcome.specs.Answer.{first_refusal}
 use Rattle.parameters.specs.declared.Params.{Params}
 use Rattle.parameters.specs.Sound.{Sound}
 use Rattle.profile.specs.declared.Profile.{Profile}
-use Rattle.outcome.specs.Result.{done}
+use Rattle.outcome.specs.Result.{Ok}
 use Rattle.profile.specs.Rules.{Class}
 use Rattle.profile.specs.Line.{line_of, read_line}
 use Rattle.profile.proofs.Theorems.{reads_written, writes_read}
@@ -45,7 +45,7 @@ use Rattle.package.proofs.TheoremLaws.{
 pub record Accepted (p : Params) (table : List Class) (key sealed country : List ℕ) (class hertz : ℕ)
     (old new : List ℕ) : Type 0 where
   pub profile : Profile
-  pub reads : read_line table (line_in p sealed) ≡ done profile
+  pub reads : read_line table (line_in p sealed) ≡ Ok profile
   pub taken : Taken profile old new
   pub passes : LoadPassed p table key sealed country class hertz old
   pub puts : put_number (device_of country class hertz) profile (stored old) ≡ 0
@@ -139,7 +139,7 @@ made_loads p table sound made_under private master salt profile lent sealed befo
     (put_accepts device profile (stored old) its newer room)) in
     let zero : answer ≡ 0 = loads.answers ∙ passes in
     let found = loads.taken zero in
-    let read : read_line table (line_in p (take size sealed)) ≡ done profile =
+    let read : read_line table (line_in p (take size sealed)) ≡ Ok profile =
     rw (written, line_back p sig (line_of profile) sized) (reads_written table profile ok) in
     let this : found.0 ≡ profile = cc in
     let stores : Stores profile (stored old) (stored new) = rw this at found.2.stores in

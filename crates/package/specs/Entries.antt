@@ -4,21 +4,18 @@ use Rattle.std.specs.Prelude.{◌≡◌, List, ℕ, ◌≤◌, length}
 use Rattle.outcome.specs.Answer.{first_refusal, AnswersFront}
 use Rattle.parameters.specs.declared.Params.{Params}
 use Rattle.profile.specs.declared.Profile.{Profile}
-use Rattle.outcome.specs.Result.{done, number_in, values_in}
+use Rattle.outcome.specs.Result.{Result, Ok}
 use Rattle.profile.specs.Rules.{Class}
 use Rattle.profile.specs.Line.{longest, line_of, read_line}
 use Rattle.scheme.specs.Sign.{signature_size, sign_checks}
 use Rattle.store.specs.Stored.{classes_of}
 use Rattle.store.specs.Calls.{Taken}
-use Rattle.package.specs.declared.load.Opened.{Opened}
 use Rattle.package.specs.Package.{
   package_max,
   package_of,
   make_checks,
   make_from_line_checks,
   line_in,
-  open_number,
-  open_values,
   opened,
   load_checks,
 }
@@ -48,9 +45,8 @@ module _ (p : Params) where
 
   -- ---- opening
 
-  pub record Opens (table : List Class) (key sealed : List ℕ) (r : Opened) : Type 0 where
-    pub number : open_number r ≡ number_in (opened p table key sealed)
-    pub value : open_values r ≡ values_in (opened p table key sealed)
+  abbrev pub Opens : (table : List Class) (key sealed : List ℕ) (r : Result Profile) → Type 0
+  Opens table key sealed r = r ≡ opened p table key sealed
 
   -- ---- loading
 
@@ -60,7 +56,7 @@ module _ (p : Params) where
       (new : List ℕ) : Type 0 where
     pub answers : answer ≡ first_refusal (load_checks p table key sealed country class hertz old)
     pub taken : answer ≡ 0
-        → (profile : Profile) × (read_line table (line_in p sealed) ≡ done profile) × Taken profile old new
+        → (profile : Profile) × (read_line table (line_in p sealed) ≡ Ok profile) × Taken profile old new
     pub kept : (answer ≡ 0 → ⊥) → new ≡ old
 
   -- the same under the store's own classes, which is what loading promises (document 02, M-108)

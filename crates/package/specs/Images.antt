@@ -4,7 +4,7 @@
 -- Assumes nothing.
 use Rattle.std.specs.Prelude.{◌≡◌, Bool, true, ◌&&◌, ◌||◌, List, [], ◌∷◌, ◌++◌, ℕ, T, eqb, ltb, length, drop, take, replicate}
 use Rattle.outcome.specs.Answer.{bad_size, not_stored, bad_device, Check, ◌unless◌, pick, AnswersFront}
-use Rattle.outcome.specs.Result.{Result, done, refused}
+use Rattle.outcome.specs.Result.{Result, Ok, Err}
 use Rattle.parameters.specs.declared.Params.{Params}
 use Rattle.profile.specs.declared.Profile.{Profile}
 use Rattle.profile.specs.Rules.{Class, classes, valid}
@@ -63,8 +63,8 @@ setting_of l = device_of l.country l.class l.hertz
 
 -- what was opened is stored for the device
 abbrev pub calls_for : Device → Result Profile → List Call
-calls_for d (done p) = record { device = d; profile = p } ∷ []
-calls_for d (refused r) = []
+calls_for d (Ok p) = record { device = d; profile = p } ∷ []
+calls_for d (Err r) = []
 
 -- a load is a call of `put` where the device is set to a country, class and hertz and the package opens, and else none
 abbrev pub calls_of : List Class → Load → List Call
@@ -84,8 +84,8 @@ abbrev pub map_in : Made → List Profile
 map_in m = model [] m.calls
 
 abbrev pub with_file : Made → Result (List Class) → Made
-with_file m (done rows) = pick (is_empty (map_in m)) (record { table = rows; calls = [] }) m
-with_file m (refused r) = m
+with_file m (Ok rows) = pick (is_empty (map_in m)) (record { table = rows; calls = [] }) m
+with_file m (Err r) = m
 
 abbrev pub with_offer : Made → Offer → Made
 with_offer m (by_package l) = record { table = m.table; calls = m.calls ++ calls_of m.table l }
@@ -221,12 +221,12 @@ module _ (p : Params) where
   LineLoads =
       (table private master salt line lent sealed : List ℕ) (before size : ℕ)
       → MakesFromLine p table private master salt line lent before 0 sealed size
-      → (profile : Profile) × (read_line (table_of table) line ≡ done profile) × T (valid (table_of table) profile)
+      → (profile : Profile) × (read_line (table_of table) line ≡ Ok profile) × T (valid (table_of table) profile)
       × ((country : List ℕ) (class hertz : ℕ) (old : List ℕ) (answer : ℕ) (new : List ℕ)
       → length country ≡ 2 → device_key (device_of country class hertz) ≡ key_of profile → length old ≡ store_size
       → T (valid (classes_of old) profile)
       → newer profile (find (key_of profile) (stored old)) ≡ true
       → (is_stored (key_of profile) (stored old) || ltb (length (stored old)) capacity) ≡ true
       → LoadsByStore p (public_key p private) (take size sealed) country class hertz old answer new
-      → (answer ≡ 0) × (lookup_in (classes_of old) (device_of country class hertz) (stored new) ≡ done profile)
+      → (answer ≡ 0) × (lookup_in (classes_of old) (device_of country class hertz) (stored new) ≡ Ok profile)
       × FindsLine new country class hertz line)

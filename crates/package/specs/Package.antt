@@ -6,7 +6,7 @@ use Rattle.std.specs.Prelude.{List, [], ◌∷◌, ◌++◌, ℕ, ◌+◌, eqb, 
 use Rattle.outcome.specs.Answer.{bad_size, bad_profile, bad_device, Check, ◌unless◌}
 use Rattle.parameters.specs.declared.Params.{Params}
 use Rattle.profile.specs.declared.Profile.{Profile}
-use Rattle.outcome.specs.Result.{Result, done, refused, refusal_in}
+use Rattle.outcome.specs.Result.{Result, Ok, Err, refusal_in}
 use Rattle.profile.specs.Rules.{◌to◌, contains, Class, valid}
 use Rattle.profile.specs.Table.{table_size, table_of}
 use Rattle.profile.specs.Line.{shortest, longest, line_of, read_line}
@@ -17,22 +17,11 @@ use Rattle.store.specs.declared.Device.{Device}
 use Rattle.store.specs.Keys.{device_of, device_ok}
 use Rattle.store.specs.Stored.{store_size, stored}
 use Rattle.store.specs.Calls.{after, put_checks}
-use Rattle.package.specs.declared.load.Opened.{Opened}
-use Rattle.package.specs.declared.load.Opened.TheVariants as opening
 
 -- what was opened is stored for the device; where nothing was, opening has refused
 abbrev pub store_checks : Device → List Profile → Result Profile → List Check
-store_checks device ps (done profile) = put_checks device profile ps
-store_checks device ps (refused r) = []
-
--- what each case of `open`'s answer means: its number, and the profile where there is one
-abbrev pub open_number : Opened → ℕ
-open_number (opening.Profile profile) = 0
-open_number (opening.Refused number) = number
-
-abbrev pub open_values : Opened → List Profile
-open_values (opening.Profile profile) = profile ∷ []
-open_values (opening.Refused number) = []
+store_checks device ps (Ok profile) = put_checks device profile ps
+store_checks device ps (Err r) = []
 
 module _ (p : Params) where
   -- the sizes of packages: a signature with the shortest, with the longest line

@@ -4,7 +4,7 @@
 use Rattle.std.specs.Prelude.{◌≡◌, true, ◌||◌, List, [], ◌∷◌, ◌++◌, ℕ, T, ltb, length, take}
 use Rattle.parameters.specs.declared.Params.{Params}
 use Rattle.profile.specs.declared.Profile.{Profile}
-use Rattle.outcome.specs.Result.{done}
+use Rattle.outcome.specs.Result.{Ok}
 use Rattle.profile.specs.Rules.{Class, valid}
 use Rattle.profile.specs.Line.{line_of, read_line}
 use Rattle.scheme.specs.Key.{public_key}
@@ -32,7 +32,7 @@ module _ (p : Params) (table : List Class) where
       → newer profile (find (key_of profile) (stored old)) ≡ true
       → (is_stored (key_of profile) (stored old) || ltb (length (stored old)) capacity) ≡ true
       → Loads p table (public_key p private) (take size sealed) country class hertz old answer new
-      → (answer ≡ 0) × (lookup_in table (device_of country class hertz) (stored new) ≡ done profile)
+      → (answer ≡ 0) × (lookup_in table (device_of country class hertz) (stored new) ≡ Ok profile)
 
   -- Nothing else gets in: where loading answers 0, what is stored is a valid profile of this device's own country,
   -- class and hertz, and the verifier answers 0 for the package's signature over exactly the line of what is stored.
@@ -61,7 +61,7 @@ module _ (p : Params) (table : List Class) where
       (calls : List Call) (key sealed country : List ℕ) (class hertz : ℕ) (old : List ℕ) (answer : ℕ) (new : List ℕ)
       → Reached table calls (stored old) → Loads p table key sealed country class hertz old answer new
       → (answer ≡ 0
-      → (profile : Profile) × (read_line table (line_in p sealed) ≡ done profile)
+      → (profile : Profile) × (read_line table (line_in p sealed) ≡ Ok profile)
       × Reached table (calls ++ (record { device = device_of country class hertz; profile = profile } ∷ []))
       (stored new))
       × ((answer ≡ 0 → ⊥) → Reached table calls (stored new))

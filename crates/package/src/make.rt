@@ -1,124 +1,66 @@
-// Making a package: a line is signed, and follows its signature.
-ghost use Rattle.signer.specs.InnerScratch.{SignScratch};
+// Making a package: a line is signed, and follows its signature. Each answers the package's length.
+ghost use Rattle.std.specs.Prelude.{ℕ};
+ghost use Rattle.outcome.specs.Result.{number_in, length_in};
 ghost use Rattle.package.specs.Entries.{Room, Seals, MakesPackage, MakesFromLine};
 
 use crate::sizes;
-use outcome::{BAD_PROFILE, BAD_SIZE};
-use parameters::Params;
-use profile::{LONGEST, Profile, ReadLine, WriteLine, read_line, write_line};
+use outcome::Refusal;
+use profile::{LONGEST, Profile, read_line, write_line};
+use signer::scratch::SignScratch;
 
 // Signs a line into the front of what is lent and puts the line behind the signature.
 fn seal(
-    p: Params,
     private: &[u8],
     master: &[u8],
     salt: &[u8],
     line: &[u8],
-    block: &mut [u8],
-    vs: &mut [u8],
-    seeds: &mut [u8],
-    states: &mut [u8],
+    scratch: &mut SignScratch<'_>,
     out: &mut [u8],
-    length: &mut usize,
-) -> u8
-    requires sign_scratch { SignScratch p block.old vs.old seeds.old states.old }
-    requires room { Room p line.now out.old }
-    ensures { Seals p private.now master.now salt.now line.now
-        out.old length.old result out.new length.new }
+) -> Result<usize, Refusal>
+    requires { Room scratch.old.category.sizes line.now out.old }
+    ensures { (before : ℕ) → Seals scratch.old.category.sizes private.now master.now salt.now line.now
+        out.old before (number_in result) out.new (length_in before result) }
 {
-    let size = scheme::signature_size(p);
+    let size = scheme::signature_size(scratch.category);
     let end = size + line.len();
-    let refusal = signer::sign::sign(
-        p,
-        private,
-        master,
-        salt,
-        line,
-        block,
-        vs,
-        seeds,
-        states,
-        &mut out[..size],
-    );
-    if refusal != 0 {
-        return refusal;
-    }
-    buffers::copy(&mut out[size..end], line);
-    *length = end;
-    0
+    signer::sign::sign(private, master, salt, line, scratch, &mut out[..size])?;
+    out[size..end].copy_from_slice(line);
+    Ok(end)
 }
 
 // The package of a profile, under the classes of a table.
 pub fn make_package(
-    p: Params,
     table: &[u8],
     private: &[u8],
     master: &[u8],
     salt: &[u8],
     profile: Profile,
-    block: &mut [u8],
-    vs: &mut [u8],
-    seeds: &mut [u8],
-    states: &mut [u8],
+    scratch: &mut SignScratch<'_>,
     out: &mut [u8],
-    length: &mut usize,
-) -> u8
-    requires { SignScratch p block.old vs.old seeds.old states.old }
-    ensures { MakesPackage p table.now private.now master.now salt.now
-        profile out.old length.old result out.new length.new }
+) -> Result<usize, Refusal>
+    ensures { (before : ℕ) → MakesPackage scratch.old.category.sizes table.now private.now master.now salt.now
+        profile out.old before (number_in result) out.new (length_in before result) }
 {
-    let refusal = sizes::check_make(p, table, private, master, salt, out.len());
-    if refusal != 0 {
-        return refusal;
-    }
+    sizes::check_make(scratch.category, table, private, master, salt, out.len())?;
     let mut line = [0u8; LONGEST];
-    match write_line(table, profile, &mut line) {
-        WriteLine::Written(n) => seal(
-            p,
-            private,
-            master,
-            salt,
-            &line[..n],
-            block,
-            vs,
-            seeds,
-            states,
-            out,
-            length,
-        ),
-        WriteLine::BadSize => BAD_SIZE,
-        WriteLine::BadProfile => BAD_PROFILE,
-    }
+    let n = write_line(table, profile, &mut line)?;
+    seal(private, master, salt, &line[..n], scratch, out)
 }
 
 // The package of the profile that a line means, under the classes of a table.
 pub fn make_from_line(
-    p: Params,
     table: &[u8],
     private: &[u8],
     master: &[u8],
     salt: &[u8],
     line: &[u8],
-    block: &mut [u8],
-    vs: &mut [u8],
-    seeds: &mut [u8],
-    states: &mut [u8],
+    scratch: &mut SignScratch<'_>,
     out: &mut [u8],
-    length: &mut usize,
-) -> u8
-    requires { SignScratch p block.old vs.old seeds.old states.old }
-    ensures { MakesFromLine p table.now private.now master.now salt.now
-        line.now out.old length.old result out.new length.new }
+) -> Result<usize, Refusal>
+    ensures { (before : ℕ) → MakesFromLine scratch.old.category.sizes table.now private.now master.now salt.now
+        line.now out.old before (number_in result) out.new (length_in before result) }
 {
-    let refusal = sizes::check_make(p, table, private, master, salt, out.len());
-    if refusal != 0 {
-        return refusal;
-    }
-    match read_line(table, line) {
-        ReadLine::Read(profile) => seal(
-            p, private, master, salt, line, block, vs, seeds, states, out, length,
-        ),
-        ReadLine::BadSize => BAD_SIZE,
-        ReadLine::BadLine => BAD_PROFILE,
-    }
+    sizes::check_make(scratch.category, table, private, master, salt, out.len())?;
+    let _ = read_line(table, line)?;
+    seal(private, master, salt, line, scratch, out)
 }

@@ -1,59 +1,57 @@
 // The sizes of packages, and of what making and opening one takes.
 ghost use Rattle.std.specs.Prelude.{◌≡◌};
 ghost use Rattle.outcome.specs.Answer.{first_refusal};
-ghost use Rattle.parameters.specs.Sound.{Sound};
+ghost use Rattle.outcome.specs.Result.{number_in};
 ghost use Rattle.package.specs.Package.{make_sizes, open_sizes};
 
-use outcome::BAD_SIZE;
-use parameters::Params;
+use outcome::Refusal;
+use parameters::Category;
 use profile::table::TABLE_SIZE;
 use profile::{LONGEST, SHORTEST};
 
 // The sizes of a table's image, of seeds and salt, and of what is lent for a package.
 pub fn check_make(
-    p: Params,
+    p: Category,
     table: &[u8],
     private: &[u8],
     master: &[u8],
     salt: &[u8],
     lent: usize,
-) -> u8
-    requires { Sound p }
-    ensures { result ≡ first_refusal (make_sizes p table.now private.now master.now
+) -> Result<(), Refusal>
+    ensures { number_in result ≡ first_refusal (make_sizes p.sizes table.now private.now master.now
         salt.now lent) }
 {
     if table.len() != TABLE_SIZE {
-        return BAD_SIZE;
+        return Err(Refusal::BadSize);
     }
-    if private.len() != p.digest {
-        return BAD_SIZE;
+    if private.len() != p.sizes.digest {
+        return Err(Refusal::BadSize);
     }
-    if master.len() != p.seed {
-        return BAD_SIZE;
+    if master.len() != p.sizes.seed {
+        return Err(Refusal::BadSize);
     }
-    if salt.len() != p.digest {
-        return BAD_SIZE;
+    if salt.len() != p.sizes.digest {
+        return Err(Refusal::BadSize);
     }
     if lent != scheme::signature_size(p) + LONGEST {
-        return BAD_SIZE;
+        return Err(Refusal::BadSize);
     }
-    0
+    Ok(())
 }
 
 // The sizes of a key and of a package.
-pub fn check_open(p: Params, key: usize, sealed: usize) -> u8
-    requires { Sound p }
-    ensures { result ≡ first_refusal (open_sizes p key sealed) }
+pub fn check_open(p: Category, key: usize, sealed: usize) -> Result<(), Refusal>
+    ensures { number_in result ≡ first_refusal (open_sizes p.sizes key sealed) }
 {
     if key != scheme::key_size(p) {
-        return BAD_SIZE;
+        return Err(Refusal::BadSize);
     }
     let size = scheme::signature_size(p);
     if sealed < size + SHORTEST {
-        return BAD_SIZE;
+        return Err(Refusal::BadSize);
     }
     if sealed > size + LONGEST {
-        return BAD_SIZE;
+        return Err(Refusal::BadSize);
     }
-    0
+    Ok(())
 }

@@ -53,12 +53,6 @@ pub data Below (m : ℕ) : List ℕ → Type 0 where
   none : Below m []
   more : {x : ℕ} {xs : List ℕ} → x < m → Below m xs → Below m (x ∷ xs)
 
-pub below_head : {m x : ℕ} {xs : List ℕ} → Below m (x ∷ xs) → x < m
-below_head (more h b) = h
-
-pub below_tail : {m x : ℕ} {xs : List ℕ} → Below m (x ∷ xs) → Below m xs
-below_tail (more h b) = b
-
 -- the test, both ways
 pub below_test : {m : ℕ} {xs : List ℕ} → Below m xs → all_below m xs ≡ true
 unfolding all_below
@@ -130,6 +124,10 @@ below_le l (more h b) = more (lt_of_lt_of_le h l) (below_le l b)
 pub below_append : {m : ℕ} {xs ys : List ℕ} → Below m xs → Below m ys → Below m (xs ++ ys)
 below_append none c = c
 below_append (more h b) c = more h (below_append b c)
+
+pub below_later : {m : ℕ} (xs : List ℕ) {ys : List ℕ} → Below m (xs ++ ys) → Below m ys
+below_later [] b = b
+below_later (x ∷ xs) (more h b) = below_later xs b
 
 pub below_take : {m : ℕ} {xs : List ℕ} (i : ℕ) → Below m xs → Below m (take i xs)
 below_take zero none = none

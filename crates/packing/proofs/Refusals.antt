@@ -3,15 +3,17 @@
 use mathlib.Core.Path.{◌≡◌, ◌∙◌, sym, ap}
 use mathlib.Core.Bool.{true, false}
 use mathlib.Core.List.{List}
-use Prim.Native.Nat.{ℕ, ◌≤◌, ◌^◌}
-use borrow.Author.Tests.{eq-eqb, ne_eqb}
-use lib.Dec.{T, eqb→eq}
-use lib.ListN.{length}
-use Rattle.outcome.specs.Answer.{Check, first_refusal, Answers}
+use Prim.Native.Nat.{ℕ, ◌-◌, ◌*◌, ◌/◌, ◌%◌, ◌^◌, ◌<◌, ◌≤◌}
+use native.Mathlib.Omega.{arith}
+use borrow.Author.Tests.{eq-eqb, ne_eqb, lt-ltb, le-ltb}
+use lib.Dec.{T, ltb, eqb→eq}
+use lib.ListN.{length, take, drop}
+use Rattle.outcome.specs.Answer.{first_refusal, pick, Answers}
 use Rattle.outcome.proofs.Checks.{passed, done}
 use Rattle.packing.specs.Packing.{number, digits, size, pack, unpack, spare_zero, all_below, pack_checks, unpack_checks}
 use Rattle.packing.proofs.RoundTrip.{length_pack, unpack_pack_below, pack_spare}
 use Rattle.packing.proofs.Below.{Below, below, below_le, below_test}
+use Rattle.packing.proofs.Seen.{see_rest, spare_rest}
 
 module _ (w m : ℕ) (xs : List ℕ) (bytes : ℕ) where
   pub pack_bad_size : (bytes ≡ size w (length xs) → ⊥) → 1 ≡ first_refusal (pack_checks w m xs bytes)
@@ -26,13 +28,13 @@ module _ (w m : ℕ) (xs : List ℕ) (bytes : ℕ) where
   unfolding pack_checks
   pack_passes e f = rw (eq-eqb bytes (size w (length xs)) e, f)
 
-  -- what a packing that refuses nothing may rely on
-  pub packable : m ≤ 2 ^ w → first_refusal (pack_checks w m xs bytes) ≡ 0
-      → (bytes ≡ size w (length xs)) × (all_below (2 ^ w) xs ≡ true)
-  unfolding pack_checks
-  packable l e =
-      let held = passed (pack_checks w m xs bytes) e in
-      (eqb→eq bytes (size w (length xs)) held.0, below_test (below_le l (below m xs held.1.0)))
+-- what a packing of fields below 2 ^ w - 1 that refuses nothing may rely on
+pub packable : (w : ℕ) (xs : List ℕ) (bytes : ℕ) → first_refusal (pack_checks w (2 ^ w - 1) xs bytes) ≡ 0
+    → (bytes ≡ size w (length xs)) × (all_below (2 ^ w) xs ≡ true)
+unfolding pack_checks
+packable w xs bytes e =
+    let held = passed (pack_checks w (2 ^ w - 1) xs bytes) e in
+    (eqb→eq bytes (size w (length xs)) held.0, below_test (below_le (omega arith) (below (2 ^ w - 1) xs held.1.0)))
 
 module _ (w m n : ℕ) (bytes : List ℕ) where
   pub unpack_bad_size : (length bytes ≡ size w n → ⊥) → 1 ≡ first_refusal (unpack_checks w m n bytes)
@@ -62,6 +64,29 @@ module _ (w m n : ℕ) (bytes : List ℕ) where
       let held = passed (unpack_checks w m n bytes) e in
       (eqb→eq (length bytes) (size w n) held.0, below m (unpack w n bytes) held.1.0, held.1.1.0)
 
+-- the tests of unpacking from a string of the right size: `seen` tells of the fields of its whole groups, r of all fields,
+-- and v is the number past the groups
+module _ (w n : ℕ) {bytes : List ℕ} (b : Below 256 bytes) (e : length bytes ≡ size w n) (v : ℕ)
+    (q : v ≡ number 8 (take (length bytes - n / 8 * w) (drop (n / 8 * w) bytes))) (seen r : ℕ)
+    (groups : ltb seen (2 ^ w) ≡ all_below (2 ^ w - 1) (digits w (n / 8 * 8) (number 8 bytes)))
+    (rest : ltb r (2 ^ w) ≡ pick (ltb seen (2 ^ w)) (all_below (2 ^ w - 1) (digits w (n % 8) v)) false) where
+  pub field_refused : 2 ^ w ≤ r → 3 ≡ first_refusal (unpack_checks w (2 ^ w - 1) n bytes)
+  field_refused l =
+      unpack_bad_field w (2 ^ w - 1) n bytes e (sym (see_rest w n b v q seen r groups rest) ∙ le-ltb r (2 ^ w) l)
+
+  fields_pass : r < 2 ^ w → all_below (2 ^ w - 1) (unpack w n bytes) ≡ true
+  fields_pass h = sym (see_rest w n b v q seen r groups rest) ∙ lt-ltb r (2 ^ w) h
+
+  pub spare_refused : r < 2 ^ w → 2 ^ (n % 8 * w) ≤ v → 3 ≡ first_refusal (unpack_checks w (2 ^ w - 1) n bytes)
+  spare_refused h l =
+      unpack_bad_spare w (2 ^ w - 1) n bytes e (fields_pass h)
+      (spare_rest w n b v q ∙ le-ltb v (2 ^ (n % 8 * w)) l)
+
+  pub rest_passes : r < 2 ^ w → v < 2 ^ (n % 8 * w) → 0 ≡ first_refusal (unpack_checks w (2 ^ w - 1) n bytes)
+  rest_passes h l =
+      unpack_passes w (2 ^ w - 1) n bytes e (fields_pass h)
+      (spare_rest w n b v q ∙ lt-ltb v (2 ^ (n % 8 * w)) l)
+
 -- what was packed is taken by unpacking
 pub packed_passes : (w m : ℕ) {xs : List ℕ} → m ≤ 2 ^ w → Below m xs → first_refusal (unpack_checks w m (length xs) (pack w xs)) ≡ 0
 packed_passes w m {xs} l b =
@@ -70,20 +95,16 @@ packed_passes w m {xs} l b =
     (unpack_passes w m (length xs) (pack w xs) (length_pack w xs)
     (ap (all_below m) (unpack_pack_below w fits) ∙ below_test b) (pack_spare w fits))
 
--- an entry that hands on a refusal that is not 0
-pub refused_by : {checks : List Check} {made old lent : List ℕ} (r : ℕ) → r ≡ first_refusal checks → (r ≡ 0 → ⊥) → lent ≡ old
-    → Answers checks made old r lent
-refused_by r e h l = record { answer = e; content = rw (ne_eqb r 0 h) l }
-
 -- an entry that passed its tests and then wrote the digits of the number
-pub pack_done : (w m : ℕ) (xs old lent : List ℕ) (r n : ℕ) → r ≡ first_refusal (pack_checks w m xs (length old)) → r ≡ 0
-    → n ≡ size w (length xs) → lent ≡ digits 8 n (number w xs)
-    → Answers (pack_checks w m xs (length old)) (pack w xs) old 0 lent
+pub pack_done : (w : ℕ) (xs old lent : List ℕ) (n : ℕ) → first_refusal (pack_checks w (2 ^ w - 1) xs (length old)) ≡ 0
+    → n ≡ length old → lent ≡ digits 8 n (number w xs)
+    → Answers (pack_checks w (2 ^ w - 1) xs (length old)) (pack w xs) old 0 lent
 unfolding pack
-pack_done w m xs old lent r n e z l made = done (sym e ∙ z) (made ∙ ap (λ (k : ℕ). digits 8 k (number w xs)) l)
+pack_done w xs old lent n e l made =
+    done e (made ∙ ap (λ (k : ℕ). digits 8 k (number w xs)) (l ∙ (packable w xs (length old) e).0))
 
-pub unpack_done : (w m : ℕ) (bytes old lent : List ℕ) (r n : ℕ) → r ≡ first_refusal (unpack_checks w m (length old) bytes) → r ≡ 0
+pub unpack_done : (w m : ℕ) (bytes old lent : List ℕ) (n : ℕ) → first_refusal (unpack_checks w m (length old) bytes) ≡ 0
     → n ≡ length old → lent ≡ digits w n (number 8 bytes)
     → Answers (unpack_checks w m (length old) bytes) (unpack w (length old) bytes) old 0 lent
 unfolding unpack
-unpack_done w m bytes old lent r n e z l made = done (sym e ∙ z) (made ∙ ap (λ (k : ℕ). digits w k (number 8 bytes)) l)
+unpack_done w m bytes old lent n e l made = done e (made ∙ ap (λ (k : ℕ). digits w k (number 8 bytes)) l)

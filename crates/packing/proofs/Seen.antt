@@ -52,17 +52,17 @@ see_fits w all left p h q l =
     or_lt 9 all (left % p + 1) l (omega (arith, digit_small w left p h q))
 
 -- a turn over whole groups of w bytes, which are eight fields each
-pub see_group : (w : ℕ) {s : List ℕ} (g i v seen r : ℕ) → Below 256 s → i ≡ g * w → v ≡ number 8 (take w (drop i s))
+pub see_group : (w : ℕ) {s : List ℕ} (g v seen r : ℕ) → Below 256 s → v ≡ number 8 (take w (drop (g * w) s))
     → ltb seen (2 ^ w) ≡ all_below (2 ^ w - 1) (digits w (g * 8) (number 8 s))
     → ltb r (2 ^ w) ≡ pick (ltb seen (2 ^ w)) (all_below (2 ^ w - 1) (digits w 8 v)) false
     → ltb r (2 ^ w) ≡ all_below (2 ^ w - 1) (digits w ((g + 1) * 8) (number 8 s))
-see_group w {s} g i v seen r b e q so_far now =
+see_group w {s} g v seen r b q so_far now =
     let m : ℕ = 2 ^ w - 1 in
-    let bits : 8 * i ≡ w * (g * 8) = rw e (omega arith) in
+    let bits : 8 * (g * w) ≡ w * (g * 8) = omega arith in
     let next : (g + 1) * 8 ≡ g * 8 + 8 = omega arith in
     now
-    ∙ rw (so_far, q, next, digits_join 8 w i (g * 8) w 8 b bits (omega arith))
-    (sym (append_test m (digits w (g * 8) (number 8 s)) (digits w 8 (number 8 (take w (drop i s))))))
+    ∙ rw (so_far, q, next, digits_join 8 w (g * w) (g * 8) w 8 b bits (omega arith))
+    (sym (append_test m (digits w (g * 8) (number 8 s)) (digits w 8 (number 8 (take w (drop (g * w) s))))))
 
 pub see_no_group : (w : ℕ) (s : List ℕ) → ltb 0 (2 ^ w) ≡ all_below (2 ^ w - 1) (digits w (0 * 8) (number 8 s))
 unfolding digits all_below

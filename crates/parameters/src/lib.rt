@@ -3,6 +3,10 @@
 
 #![tactic(auto)]
 
+pub mod category;
+
+pub use category::Category;
+
 #[derive(Clone, Copy)]
 pub struct Params {
     // places of a vector, and how many of them the matrix V covers

@@ -58,19 +58,12 @@ module _ (input : List ℕ) (at i : ℕ) (passed : Passed input at i) where
         record {
           start = omega (arith, passed.start);
           within = omega arith;
-          line = λ h. sym passed.left ∙ (rw yes at step);
-          unfinished = λ h. absurd (omega (arith, passed.start));
+          line = sym passed.left ∙ (rw yes at step);
         }
 
-  pub line_unfinished : length input ≤ i → LineAt input at at
+  pub line_unfinished : length input ≤ i → cut (drop at input) ≡ []
   unfolding cut_after
-  line_unfinished end =
-      record {
-        start = omega arith;
-        within = omega (arith, passed.start, passed.within);
-        line = λ h. absurd (omega arith);
-        unfinished = λ h. sym passed.left ∙ rw (drop_of_length-le input end);
-      }
+  line_unfinished end = sym passed.left ∙ rw (drop_of_length-le input end)
 
 -- ---- what the lines store
 
@@ -84,18 +77,17 @@ Left table input qs at ps =
 pub left_all : (table : List Class) (input : List ℕ) (qs : List Profile) → Left table input qs 0 qs
 left_all table input qs rs run = run
 
-module _ (table : List Class) (input : List ℕ) (at end : ℕ) (found : LineAt input at end) (first ps : List Profile)
-    (left : Left table input first at ps) where
-  pub left_fewer : at < end → (qs : List Profile)
+module _ (table : List Class) (input : List ℕ) (at : ℕ) (first ps : List Profile) (left : Left table input first at ps) where
+  pub left_fewer : (end : ℕ) → LineAt input at end → (qs : List Profile)
       → Run table ps (calls_of (read_line table (take (end - at) (drop at input)))) qs
       → Left table input first end qs
   unfolding calls_in
-  left_fewer h qs run rs others =
+  left_fewer end found qs run rs others =
       left rs
-      (rw (found.line h)
+      (rw found.line
       (run_then table (calls_of (read_line table (take (end - at) (drop at input))))
       (calls_in table (cut (drop end input))) ps qs rs run others))
 
-  pub left_none : end ≤ at → Run table first (calls_in table (cut input)) ps
+  pub left_none : cut (drop at input) ≡ [] → Run table first (calls_in table (cut input)) ps
   unfolding calls_in
-  left_none h = left ps (rw (found.unfinished h) refl)
+  left_none none = left ps (rw none refl)

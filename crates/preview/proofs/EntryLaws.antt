@@ -7,7 +7,7 @@ use native.Mathlib.Omega.{arith}
 use lib.Dec.{T, eqb}
 use lib.ListN.{length, drop, length-append}
 use borrow.Author.Tests.{eq-eqb, ne_eqb, lt-ltb, le-ltb}
-use Rattle.outcome.specs.Answer.{pick}
+use Rattle.outcome.specs.Answer.{bad_size, pick}
 use Rattle.decimal.specs.Decimal.{Room, Appended}
 use Rattle.decimal.proofs.Stores.{appended_as, front_length, front}
 use Rattle.profile.specs.declared.Profile.{Profile}
@@ -16,7 +16,7 @@ use Rattle.profile.specs.Table.{table_size, table_of}
 use Rattle.profile.specs.Line.{read_line}
 use Rattle.profile.proofs.RuleLaws.{done_passed}
 use Rattle.profile.proofs.Theorems.{writes_read}
-use Rattle.outcome.specs.Result.{Result, done, refused}
+use Rattle.outcome.specs.Result.{Result, Ok, Err}
 use Rattle.store.specs.Stored.{capacity, insert}
 use Rattle.store.specs.Reached.{Call, answer_to, Step, ValidCall, Run, Reached, model}
 use Rattle.store.proofs.KeyLaws.{device_of_valid}
@@ -24,8 +24,6 @@ use Rattle.store.proofs.StoredLaws.{find_insert, perm_eq, perm_length}
 use Rattle.store.proofs.Reached.{perm_valid, reached_hold}
 use Rattle.order.specs.Order.{in_order}
 use Rattle.order.proofs.Theorems.{order_sorts, order_ascending, perm_order, reached_order as order_of_run}
-use Rattle.preview.specs.declared.Previewed.{Previewed}
-use Rattle.preview.specs.declared.Previewed.TheVariants.{Length, BadSize}
 use Rattle.preview.specs.Preview.{
   longest_input,
   cut,
@@ -43,7 +41,6 @@ use Rattle.preview.specs.Preview.{
   SameListing,
   lent_size,
   preview_checks,
-  preview_answer,
   Previews,
 }
 use Rattle.preview.proofs.RowLaws.{rows_fit}
@@ -69,8 +66,8 @@ line_valid : (table : List Class) (line : List ℕ) → AllCalls table (calls_of
 line_valid table line = go (read_line table line) refl
   where
     go : (r : Result Profile) → read_line table line ≡ r → AllCalls table (calls_of r)
-    go (done p) e = (own_valid table p (writes_read table line p e).1, tt)
-    go (refused r) e = tt
+    go (Ok p) e = (own_valid table p (writes_read table line p e).1, tt)
+    go (Err r) e = tt
 
 lines_valid : (table : List Class) (lines : List (List ℕ)) → AllCalls table (calls_in table lines)
 unfolding calls_in
@@ -147,11 +144,11 @@ same_listing table a b short brief perm =
 -- ---- the answer
 
 module _ (table input old : List ℕ) where
-  pub table_refused : (length table ≡ table_size → ⊥) → Previews table input old BadSize old
+  pub table_refused : (length table ≡ table_size → ⊥) → Previews table input old (Err bad_size) old
   table_refused other = record { answered = rw (ne_eqb (length table) table_size other); content = refl }
 
   module _ (right : length table ≡ table_size) where
-    pub lent_refused : (length old ≡ lent_size → ⊥) → Previews table input old BadSize old
+    pub lent_refused : (length old ≡ lent_size → ⊥) → Previews table input old (Err bad_size) old
     lent_refused other =
         record {
           answered = rw (eq-eqb (length table) table_size right, ne_eqb (length old) lent_size other);
@@ -159,30 +156,26 @@ module _ (table input old : List ℕ) where
         }
 
     pub previews_done : {n : ℕ} {text new : List ℕ} → length old ≡ lent_size → text ≡ listing (table_of table) input
-        → Appended old 0 text new n → n ≤ lent_size → Previews table input old (Length n) new
+        → Appended old 0 text new n → n ≤ lent_size → Previews table input old (Ok n) new
     previews_done {n} {text} {new} size its put most =
         let whole : Appended old 0 (listing (table_of table) input) new n = appended_as its put in
         let room : Room old 0 (listing (table_of table) input) = record { room = omega (arith, whole.place) } in
         record {
           answered =
               rw (eq-eqb (length table) table_size right, eq-eqb (length old) lent_size size)
-              (ap done (front_length whole room));
+              (ap Ok (front_length whole room));
           content = front whole room;
         }
 
 -- the length that is answered is that of the listing
-pub length_listed : {table input old lent : List ℕ} {r : Previewed} {n : ℕ} → Previews table input old r lent
-    → r ≡ Length n → n ≡ length (listing (table_of table) input)
-length_listed {table} {input} {old} {lent} {r} {n} previews is =
-    sym
-    (done_passed (preview_checks table old) (length (listing (table_of table) input)) n
-    (sym previews.answered ∙ ap preview_answer is)
-    ).1
+pub length_listed : {table input old lent : List ℕ} {n : ℕ} → Previews table input old (Ok n) lent
+    → n ≡ length (listing (table_of table) input)
+length_listed {table} {input} {old} {lent} {n} previews =
+    sym (done_passed (preview_checks table old) (length (listing (table_of table) input)) n (sym previews.answered)).1
 
 -- and lies within the lent bytes
-pub length_within : {table input old lent : List ℕ} {r : Previewed} {n : ℕ} → Previews table input old r lent
-    → r ≡ Length n → n ≤ length lent
-length_within {table} {input} {old} {lent} {r} {n} previews is =
+pub length_within : {table input old lent : List ℕ} {n : ℕ} → Previews table input old (Ok n) lent → n ≤ length lent
+length_within {table} {input} {old} {lent} {n} previews =
     let text : List ℕ = listing (table_of table) input in
-    let whole : lent ≡ text ++ drop (length text) old = previews.content ∙ rw is in
-    omega (arith, length_listed previews is, ap length whole, length-append text (drop (length text) old))
+    let whole : lent ≡ text ++ drop (length text) old = previews.content in
+    omega (arith, length_listed previews, ap length whole, length-append text (drop (length text) old))

@@ -1,11 +1,11 @@
 -- What a device would hold, listed before anything is signed (document 01, "Profile line, package, shelf", the preview
 -- program; document 02, M-104, for the hertz, M-106, for the order of the rows, and M-108, for the class table).
 -- Assumes nothing.
-use Rattle.std.specs.Prelude.{◌≡◌, List, [], ◌∷◌, ◌++◌, ℕ, ◌-◌, ◌*◌, ◌≤◌, ◌<◌, eqb, ltb, length, take, drop}
+use Rattle.std.specs.Prelude.{◌≡◌, Option, None, Some, List, [], ◌∷◌, ◌++◌, ℕ, ◌-◌, ◌*◌, ◌≤◌, ◌<◌, eqb, ltb, length, take, drop}
 use Rattle.outcome.specs.Answer.{bad_size, Check, ◌unless◌, pick, AnswersFront}
 use Rattle.decimal.specs.Decimal.{decimal}
 use Rattle.profile.specs.declared.Profile.{Profile}
-use Rattle.outcome.specs.Result.{Result, done, refused, answer, number_in}
+use Rattle.outcome.specs.Result.{Result, Ok, Err, answer, number_in}
 use Rattle.profile.specs.Rules.{Class}
 use Rattle.profile.specs.Table.{table_size, table_of}
 use Rattle.profile.specs.Line.{comma, line_feed, read_line}
@@ -14,8 +14,6 @@ use Rattle.store.specs.Stored.{capacity, Distinct}
 use Rattle.store.specs.Calls.{Perm}
 use Rattle.store.specs.Reached.{Call, AllValid, model}
 use Rattle.order.specs.Order.{in_order, Ascending}
-use Rattle.preview.specs.declared.Previewed.{Previewed}
-use Rattle.preview.specs.declared.Previewed.TheVariants.{Length, BadSize}
 
 -- ---- the input
 
@@ -33,13 +31,16 @@ cut_after line (b ∷ bs) =
 abbrev pub cut : List ℕ → List (List ℕ)
 cut bytes = cut_after [] bytes
 
--- the line that starts at a place of the input ends just before `end`; where no LF ends it, `end` is the place where it
--- starts
+-- the line that starts at a place of the input ends just before `end`
 pub record LineAt (input : List ℕ) (at end : ℕ) : Type 0 where
-  pub start : at ≤ end
+  pub start : at < end
   pub within : end ≤ length input
-  pub line : at < end → cut (drop at input) ≡ take (end - at) (drop at input) ∷ cut (drop end input)
-  pub unfinished : end ≤ at → cut (drop at input) ≡ []
+  pub line : cut (drop at input) ≡ take (end - at) (drop at input) ∷ cut (drop end input)
+
+-- there it ends, or no LF ends it
+abbrev pub LineFound : List ℕ → ℕ → Option ℕ → Type 0
+LineFound input at (Some end) = LineAt input at end
+LineFound input at None = cut (drop at input) ≡ []
 
 -- ---- what is stored
 
@@ -49,8 +50,8 @@ own_device p = record { country = p.country; class = p.class; hertz = p.hertz }
 
 -- a line that is read as a profile is stored, as if signed, on such a device; a refused one is not
 abbrev pub calls_of : Result Profile → List Call
-calls_of (done p) = record { device = own_device p; profile = p } ∷ []
-calls_of (refused r) = []
+calls_of (Ok p) = record { device = own_device p; profile = p } ∷ []
+calls_of (Err r) = []
 
 unfoldable pub calls_in : List Class → List (List ℕ) → List Call
 calls_in table [] = []
@@ -129,17 +130,12 @@ lent_size = 331
 abbrev pub preview_checks : List ℕ → List ℕ → List Check
 preview_checks table lent = bad_size unless eqb (length table) table_size ∷ bad_size unless eqb (length lent) lent_size ∷ []
 
--- what each case of `preview`'s answer means
-abbrev pub preview_answer : Previewed → Result ℕ
-preview_answer (Length n) = done n
-preview_answer BadSize = refused bad_size
-
 -- The answer is the length of the listing, which stands at the front of the lent bytes. Past it they are as they were,
 -- and after a refusal all of them are.
-pub record Previews (table input old : List ℕ) (r : Previewed) (lent : List ℕ) : Type 0 where
-  pub answered : preview_answer r ≡ answer (preview_checks table old) (length (listing (table_of table) input))
+pub record Previews (table input old : List ℕ) (r : Result ℕ) (lent : List ℕ) : Type 0 where
+  pub answered : r ≡ answer (preview_checks table old) (length (listing (table_of table) input))
   pub content : lent
-      ≡ pick (eqb (number_in (preview_answer r)) 0)
+      ≡ pick (eqb (number_in r) 0)
       (listing (table_of table) input ++ drop (length (listing (table_of table) input)) old) old
 
 -- the same with a number for an answer, and the length in a number that is lent

@@ -3,23 +3,21 @@
 
 ghost use Rattle.std.specs.Prelude.{◌≡◌, ◌≤◌, T, length};
 ghost use Rattle.decimal.specs.Decimal.{Room, Appended};
-ghost use Rattle.outcome.specs.Result.{done};
 ghost use Rattle.profile.specs.Rules.{valid};
 ghost use Rattle.profile.specs.Table.{table_of};
 ghost use Rattle.profile.specs.Line.{read_line};
 ghost use Rattle.store.specs.Stored.{store_size, stored};
 ghost use Rattle.store.specs.Reached.{Run};
 ghost use Rattle.order.specs.Order.{in_order};
-ghost use Rattle.order.specs.InnerPlaces.{profiles_at, AreSlots};
-ghost use Rattle.preview.specs.Preview.{cut, calls_of, calls_in, key_bytes, row, rows, LineAt, Previews, PreviewsTo};
+ghost use Rattle.order.specs.InnerPlaces.{places_of, profiles_at};
+ghost use Rattle.preview.specs.Preview.{cut, calls_of, calls_in, key_bytes, row, rows, LineFound, Previews};
 
-use buffers::copy;
 use decimal::write_decimal;
 use order::order_slots;
-use outcome::BAD_SIZE;
+use outcome::Refusal;
 use profile::table::TABLE_SIZE;
-use profile::{Profile, ReadLine, read_line};
-use store::slots::profile_at;
+use profile::{Profile, read_line};
+use store::slots::{Slot, StoreImage};
 use store::{CAPACITY, Device, STORE_SIZE, put};
 
 // How many bytes are lent for the listing: the header and a row for each slot have room.
@@ -28,28 +26,17 @@ pub const LENT_SIZE: usize = 331;
 // A longer input is not looked at.
 pub const LONGEST_INPUT: usize = 65536;
 
-// The listing is written, and is this long; or another number of bytes is lent than `LENT_SIZE`, or the table has
-// another size.
-#[derive(Drop)]
-pub enum Previewed {
-    Length(usize),
-    BadSize,
-}
-
-// The place after the line that begins at `start`, or `start` where no LF ends that line.
-fn line_end(input: &[u8], start: usize) -> usize
+// The place after the line that begins at `start`, where an LF ends that line.
+fn line_end(input: &[u8], start: usize) -> Option<usize>
     requires { start ≤ length input.now }
-    ensures { LineAt input.now start result }
+    ensures { LineFound input.now start result }
 {
-    let mut i = start;
-    while i < input.len() {
-        let byte = input[i];
-        i += 1;
-        if byte == b'\n' {
-            return i;
+    for i in start..input.len() {
+        if input[i] == b'\n' {
+            return Some(i + 1);
         }
     }
-    start
+    None
 }
 
 // Stores a valid profile as a device of its own country, class and hertz does, under the classes of a table. What is
@@ -57,17 +44,16 @@ fn line_end(input: &[u8], start: usize) -> usize
 fn hold(table: &[u8], store: &mut [u8], profile: Profile)
     requires store_len { length store.old ≡ store_size }
     requires t { T (valid (table_of table.now) profile) }
-    ensures { Run (table_of table.now) (stored store.old) (calls_of (done profile))
+    ensures { Run (table_of table.now) (stored store.old) (calls_of (Ok profile))
         (stored store.new) }
 {
-    let country = profile.country;
-    let class = profile.class;
     let device = Device {
-        country: country,
-        class: class as u32,
+        country: profile.country,
+        class: profile.class as u32,
         hertz: profile.hertz,
     };
-    put(store, profile, device);
+    // What is refused changes nothing.
+    let _ = put(store, profile, device);
 }
 
 // A line that is refused changes nothing.
@@ -77,9 +63,8 @@ fn hold_line(table: &[u8], store: &mut [u8], line: &[u8])
         (calls_of (read_line (table_of table.now) line.now)) (stored store.new) }
 {
     match read_line(table, line) {
-        ReadLine::Read(p) => hold(table, store, p),
-        ReadLine::BadSize => {}
-        ReadLine::BadLine => {}
+        Ok(profile) => hold(table, store, profile),
+        Err(_) => {}
     }
 }
 
@@ -90,11 +75,9 @@ fn hold_lines(table: &[u8], store: &mut [u8], input: &[u8])
         (calls_in (table_of table.now) (cut input.now)) (stored store.new) }
 {
     let mut at = 0;
-    let mut end = line_end(input, 0);
-    while at < end {
+    while let Some(end) = line_end(input, at) {
         hold_line(table, store, &input[at..end]);
         at = end;
-        end = line_end(input, at);
     }
 }
 
@@ -104,7 +87,7 @@ fn append_text(text: &[u8], out: &mut [u8]) -> usize
     ensures { Appended out.old 0 text.now out.new result }
 {
     let end = text.len();
-    copy(&mut out[..end], text);
+    out[..end].copy_from_slice(text);
     end
 }
 
@@ -115,7 +98,7 @@ fn append_key(p: Profile, out: &mut [u8], at: usize) -> usize
 {
     let letters = [p.country.first, p.country.second, b',', p.class, b','];
     let hertz = at + 5;
-    copy(&mut out[at..hertz], &letters);
+    out[at..hertz].copy_from_slice(&letters);
     let end = write_decimal(p.hertz, out, hertz);
     out[end] = b',';
     end + 1
@@ -133,63 +116,45 @@ fn append_row(p: Profile, out: &mut [u8], at: usize) -> usize
 }
 
 // The rows of the slots at these places, in the order of the places.
-fn append_places(store: &[u8], places: &[u8], out: &mut [u8], at: usize) -> usize
-    requires store_len { length store.now ≡ store_size }
-    requires are_slots { AreSlots places.now }
-    requires room { Room out.old at (rows (profiles_at store.now places.now)) }
-    ensures { Appended out.old at (rows (profiles_at store.now places.now))
+fn append_places(store: StoreImage<'_>, places: &[Slot], out: &mut [u8], at: usize) -> usize
+    requires { Room out.old at (rows (profiles_at store.bytes.now (places_of places.now))) }
+    ensures { Appended out.old at (rows (profiles_at store.entry.bytes.now (places_of places.now)))
         out.new result }
 {
     let mut next = at;
-    let mut i: usize = 0;
-    while i < places.len() {
-        let slot = places[i];
-        next = append_row(profile_at(store, slot as usize), out, next);
-        i += 1;
+    for &slot in places {
+        next = append_row(store.profile_at(slot), out, next);
     }
     next
 }
 
 // The rows of everything stored, in order.
-fn append_rows(store: &[u8], out: &mut [u8], at: usize) -> usize
-    requires store_len { length store.now ≡ store_size }
-    requires room { Room out.old at (rows (in_order (stored store.now))) }
-    ensures { Appended out.old at (rows (in_order (stored store.now))) out.new result }
+fn append_rows(store: StoreImage<'_>, out: &mut [u8], at: usize) -> usize
+    requires { Room out.old at (rows (in_order (stored store.bytes.now))) }
+    ensures { Appended out.old at (rows (in_order (stored store.entry.bytes.now))) out.new result }
 {
-    let mut places = [0u8; CAPACITY];
+    let mut places = [Slot { place: 0 }; CAPACITY];
     let count = order_slots(store, &mut places);
     append_places(store, &places[..count], out, at)
 }
 
-// Writes the listing at the front of the lent bytes. The store that the lines fill is a local one, empty at first.
-pub fn preview(table: &[u8], input: &[u8], out: &mut [u8]) -> Previewed
+// Writes the listing at the front of the lent bytes, and answers its length. The store that the lines fill is a local
+// one, empty at first.
+pub fn preview(table: &[u8], input: &[u8], out: &mut [u8]) -> Result<usize, Refusal>
     ensures { Previews table.now input.now out.old result out.new }
 {
     if table.len() != TABLE_SIZE {
-        return Previewed::BadSize;
+        return Err(Refusal::BadSize);
     }
     if out.len() != LENT_SIZE {
-        return Previewed::BadSize;
+        return Err(Refusal::BadSize);
     }
     if input.len() > LONGEST_INPUT {
-        return Previewed::Length(append_text(b"too long\n", out));
+        return Ok(append_text(b"too long\n", out));
     }
     let mut store = [0u8; STORE_SIZE];
     hold_lines(table, &mut store, input);
     let at = append_text(b"COUNTRY,CLASS,HERTZ,SERIAL\n", out);
-    Previewed::Length(append_rows(&store, out, at))
-}
-
-// The same with a number for an answer. The length is stored only where nothing is refused.
-pub fn preview_into(table: &[u8], input: &[u8], out: &mut [u8], length: &mut usize) -> u8
-    ensures { PreviewsTo table.now input.now out.old length.old result
-        out.new length.new }
-{
-    match preview(table, input, out) {
-        Previewed::Length(n) => {
-            *length = n;
-            0
-        }
-        Previewed::BadSize => BAD_SIZE,
-    }
+    let held = StoreImage { bytes: &store };
+    Ok(append_rows(held, out, at))
 }

@@ -4,7 +4,7 @@
 ghost use Rattle.std.specs.Prelude.{◌<◌, ◌≤◌, OnOk, length, take};
 ghost use Rattle.std.specs.Io.KnownBytes.{Consumes, IsAtEnd};
 
-use preview::{LENT_SIZE, LONGEST_INPUT, Previewed, preview};
+use preview::{LENT_SIZE, LONGEST_INPUT, preview};
 use profile::table::TABLE_SIZE;
 use std::io;
 use std::io::Read;
@@ -36,8 +36,7 @@ fn main(rt: HostRuntime) -> io::Result<()> {
     let mut out = [0u8; LENT_SIZE];
     // The table of the built-in classes.
     let classes = [0u8; TABLE_SIZE];
-    let answer = preview(&classes, &input[..length], &mut out);
-    let Previewed::Length(n) = answer else {
+    let Ok(n) = preview(&classes, &input[..length], &mut out) else {
         return Ok(());
     };
     rt.write_all(&out[..n])

@@ -1,31 +1,33 @@
 -- Laws of lines: their lengths, and what is read from them. Assumes nothing.
-use mathlib.Core.Path.{◌≡◌, refl, ◌∙◌, sym, ap, ap₂}
-use mathlib.Core.Bool.{Bool, true, false, false≢true}
+use mathlib.Core.Path.{◌≡◌, refl, ◌∙◌, sym, ap}
+use mathlib.Core.Bool.{true, false, false≢true, ◌&&◌}
 use mathlib.Core.List.{List, [], ◌∷◌, ◌++◌, map, append_assoc, append-nil}
-use Prim.Native.Nat.{ℕ, suc, ◌+◌, max, ◌≤◌, ◌<◌}
+use Prim.Native.Nat.{ℕ, suc, ◌+◌, max, ◌≤◌}
 use native.Mathlib.Omega.{arith}
 use lib.Dec.{eqb, lit≤}
-use lib.ListN.{length, take, drop, get_or, set, take-append-drop, length-append, drop_of_length-le}
-use lib.Seq.{drop-append_seam, drop-drop, drop-length}
-use borrow.Author.Tests.{eqb-true, eq-eqb, ne_eqb}
-use Rattle.decimal.specs.Decimal.{decimal, last_digits, largest, is_digit, leading_digits, value_from, leading_number, after_number, NumberAt, NumberBehind, Room, Appended}
+use lib.Pointwise.{pointwise}
+use lib.ListN.{length, take, drop, get_or, take-append-drop, length-append}
+use lib.Seq.{drop-append_seam}
+use Rattle.std.proofs.lemmas.Grind.{common_steps}
+use Rattle.decimal.specs.Decimal.{decimal, last_digits, largest, is_digit, leading_number, after_number}
 use Rattle.decimal.specs.declared.Number.{Number}
 use Rattle.decimal.proofs.Decimal.{one_digit, number_before, after_before}
-use Rattle.decimal.proofs.Stores.{one_byte, then, appended_as, room_as, room_after}
+use Rattle.decimal.proofs.Stores.{sets_append, appended_length}
 use Rattle.outcome.specs.Answer.{pick}
 use Rattle.outcome.specs.Lists.{same}
 use Rattle.profile.specs.declared.Limit.{Limit}
 use Rattle.profile.specs.declared.Limit.TheVariants.{Share, Offset, Rate}
 use Rattle.profile.specs.declared.Trip.{Trip}
-use Rattle.profile.specs.declared.RatePoint.{RatePoint}
-use Rattle.profile.specs.declared.RatePoint.TheVariants.{Absent, Present}
+use Rattle.profile.specs.declared.rules.Kind.{Kind}
+use Rattle.profile.specs.Rules.{RatePoint}
+use Rattle.std.specs.Prelude.{None, Some}
 use Rattle.profile.specs.declared.scan.TripRead.{TripRead}
 use Rattle.profile.specs.declared.Profile.{Profile}
-use Rattle.profile.specs.Rules.{share, above, below, plain, rate, in_one_of, kind_of, size_of, Field, trip_fields, rate_fields, fields_of, LineKind, GP1, GP2, kind_for, line_kind, rate_rules, Rule, rules, fits, obeys}
+use Rattle.profile.specs.Rules.{share, above, below, plain, rate, same_kind, in_one_of, kind_of, size_of, Field, trip_fields, rate_fields, fields_of, LineKind, GP1, GP2, kind_for, line_kind, rate_rules, Rule, rules, fits, obeys}
 use Rattle.profile.specs.Line.{comma, minus, line_feed, lead, field_bytes, written, head_of, line_of, shortest, longest, tag, field_number, after_field, numbers_in, limit_of, rate_from, profile_from, kind_in, scanned}
 use Rattle.profile.specs.Theorems.{least, greatest}
 use Rattle.profile.specs.InnerPlaces.{FieldAt, TripAt, trip_in, rate_in, RateAt}
-use Rattle.profile.proofs.RuleLaws.{and_first, and_rest, same_kinds, fewest, most, top, range_bounds}
+use Rattle.profile.proofs.RuleLaws.{and_first, and_rest, kinds_equal, same_kinds, fewest, most, top, range_bounds}
 
 -- ---- lengths
 
@@ -39,10 +41,10 @@ longest_fields (r ∷ rs) = length (lead r.kind) + most r.ranges + longest_field
 
 module _ (r : Rule) (f : Field) (e : fits r f ≡ true) where
   pub kind_fits : f.kind ≡ r.kind
-  kind_fits = eqb-true f.kind r.kind (and_first (eqb f.kind r.kind) _ e)
+  kind_fits = kinds_equal f.kind r.kind (and_first (same_kind f.kind r.kind) _ e)
 
   pub size_fits : in_one_of r.ranges f.size ≡ true
-  size_fits = and_rest (eqb f.kind r.kind) _ e
+  size_fits = and_rest (same_kind f.kind r.kind) _ e
 
 pub length_written : (rs : List Rule) (fs : List Field) → obeys rs fs ≡ true
     → (shortest_fields rs ≤ length (written fs)) × (length (written fs) ≤ longest_fields rs)
@@ -54,7 +56,7 @@ length_written (r ∷ rs) (f ∷ fs) e =
     let here = and_first (fits r f) _ e in
     let digits = range_bounds r.ranges f.size (size_fits r f here) in
     let others = length_written rs fs (and_rest (fits r f) _ e) in
-    let leads : length (lead f.kind) ≡ length (lead r.kind) = ap (λ (k : ℕ). length (lead k)) (kind_fits r f here) in
+    let leads : length (lead f.kind) ≡ length (lead r.kind) = ap (λ (k : Kind). length (lead k)) (kind_fits r f here) in
     omega
     (arith, length-append (lead f.kind ++ decimal f.size) (written fs), length-append (lead f.kind) (decimal f.size), leads, digits, others)
 
@@ -91,50 +93,23 @@ written_append (f ∷ fs) gs =
     ∙ sym (append_assoc (field_bytes f.kind f.size) (written fs) (written gs))
 
 -- a field is a comma, and a minus where it is below
-pub field_below : (kind size : ℕ) → kind ≡ below → field_bytes kind size ≡ (comma ∷ []) ++ ((minus ∷ []) ++ decimal size)
+pub field_below : (kind : Kind) (size : ℕ) → same_kind kind below ≡ true → field_bytes kind size ≡ (comma ∷ []) ++ ((minus ∷ []) ++ decimal size)
 unfolding field_bytes
-field_below kind size e = rw (eq-eqb kind below e)
+field_below kind size e = rw e
 
-pub field_other : (kind size : ℕ) → (kind ≡ below → ⊥) → field_bytes kind size ≡ (comma ∷ []) ++ decimal size
+pub field_other : (kind : Kind) (size : ℕ) → same_kind kind below ≡ false → field_bytes kind size ≡ (comma ∷ []) ++ decimal size
 unfolding field_bytes
-field_other kind size h = rw (ne_eqb kind below h)
+field_other kind size e = rw e
 
-module _ (l : List ℕ) (at kind size : ℕ) where
-  pub field_place : Room l at (field_bytes kind size) → at + 2 ≤ length l
-  unfolding field_bytes
-  field_place r =
-      omega (arith, r.room, length-append (pick (eqb kind below) (minus ∷ []) []) (decimal size), one_digit size)
+-- a comma and a digit, or more
+pub one_digit_more : (kind : Kind) (size : ℕ) → 2 ≤ length (field_bytes kind size)
+unfolding field_bytes
+one_digit_more kind size =
+    omega (arith, length-append (pick (same_kind kind below) (minus ∷ []) []) (decimal size), one_digit size)
 
-  -- a field that is put byte by byte, and then its digits
-  module _ (e : kind ≡ below) where
-    minus_put : Appended l at ((comma ∷ []) ++ (minus ∷ [])) (set (set l at comma) (at + 1) minus) (at + 2)
-    minus_put = then (one_byte l at comma (at + 1) refl) (one_byte (set l at comma) (at + 1) minus (at + 2) (omega arith))
-
-    pub room_below : Room l at (field_bytes kind size) → Room (set (set l at comma) (at + 1) minus) (at + 2) (decimal size)
-    room_below r = room_after (decimal size) minus_put (room_as (field_below kind size e) r)
-
-    pub put_below : {m : List ℕ} {j : ℕ} → Appended (set (set l at comma) (at + 1) minus) (at + 2) (decimal size) m j
-        → Appended l at (field_bytes kind size) m j
-    put_below digits = appended_as (sym (field_below kind size e)) (then minus_put digits)
-
-  module _ (e : kind ≡ below → ⊥) where
-    comma_put : Appended l at (comma ∷ []) (set l at comma) (at + 1)
-    comma_put = one_byte l at comma (at + 1) refl
-
-    pub room_other : Room l at (field_bytes kind size) → Room (set l at comma) (at + 1) (decimal size)
-    room_other r = room_after (decimal size) comma_put (room_as (field_other kind size e) r)
-
-    pub put_other : {m : List ℕ} {j : ℕ} → Appended (set l at comma) (at + 1) (decimal size) m j
-        → Appended l at (field_bytes kind size) m j
-    put_other digits = appended_as (sym (field_other kind size e)) (then comma_put digits)
-
-trip_bytes : (t : Trip) → written (trip_fields t) ≡ field_bytes (kind_of t.limit) (size_of t.limit) ++ field_bytes plain t.delay
+pub trip_bytes : (t : Trip) → written (trip_fields t) ≡ field_bytes (kind_of t.limit) (size_of t.limit) ++ field_bytes plain t.delay
 unfolding written
 trip_bytes t = ap (λ (l : List ℕ). field_bytes (kind_of t.limit) (size_of t.limit) ++ l) (append-nil (field_bytes plain t.delay))
-
-pub trip_as : (t : Trip) {kind size : ℕ} → kind ≡ kind_of t.limit → size ≡ size_of t.limit
-    → field_bytes kind size ++ field_bytes plain t.delay ≡ written (trip_fields t)
-trip_as t e f = ap₂ (λ (k n : ℕ). field_bytes k n ++ field_bytes plain t.delay) e f ∙ sym (trip_bytes t)
 
 module _ (p : Profile) where
   pub ratings_bytes : written (take 3 (fields_of p))
@@ -170,6 +145,37 @@ module _ (p : Profile) where
       ∙ ap (λ (l : List ℕ). l ++ (line_feed ∷ [])) (written_append (take 3 (fields_of p)) (drop 3 (fields_of p)))
       ∙ append_assoc ratings trips (line_feed ∷ []))
 
+-- and the lengths of these parts
+pub none_written : written [] ≡ []
+unfolding written
+none_written = refl
+
+module _ (p : Profile) where
+  pub trips_length : length (written (drop 3 (fields_of p)))
+      ≡ length (written (trip_fields p.over_voltage)) + (length (written (trip_fields p.under_voltage))
+      + (length (written (trip_fields p.over_frequency)) + (length (written (trip_fields p.under_frequency))
+      + length (written (rate_fields p.rate_of_change)))))
+  trips_length = grind (arith, common_steps, trips_bytes p)
+
+  pub line_length : length (line_of p)
+      ≡ 8 + (length (written (take 3 (fields_of p))) + (length (written (drop 3 (fields_of p))) + 1))
+  line_length = grind (arith, common_steps, line_bytes p)
+
+-- what each function is told that writes parts of a line, one after the other
+pub ruleset stored = (common_steps, sets_append, appended_length)
+
+pub ruleset field_stored = (stored, field_below, field_other, one_digit_more)
+
+pub ruleset trip_stored = (stored, trip_bytes)
+
+pub ruleset ratings_stored = (stored, ratings_bytes)
+
+pub ruleset rate_stored = (stored, none_written)
+
+pub ruleset trips_stored = (stored, trips_bytes, trips_length)
+
+pub ruleset line_stored = (stored, line_bytes, line_length)
+
 -- ---- reading what was written
 
 -- after a field comes a comma or the line's end, and neither is a digit
@@ -184,7 +190,7 @@ unfolding written field_bytes
 stops [] = record { byte = line_feed; others = []; here = refl; stop = refl }
 stops (f ∷ fs) = record { byte = comma; others = _; here = refl; stop = refl }
 
-module _ (kind n : ℕ) (rest : List ℕ) (stop : Stops rest) where
+module _ (kind : Kind) (n : ℕ) (rest : List ℕ) (stop : Stops rest) where
   past_lead : drop (length (lead kind)) ((lead kind ++ decimal n) ++ rest) ≡ decimal n ++ stop.byte ∷ stop.others
   past_lead =
       ap (drop (length (lead kind))) (append_assoc (lead kind) (decimal n) rest)
@@ -220,7 +226,7 @@ numbers_written (r ∷ rs) (f ∷ fs) h e =
     ∷ (ap (numbers_in rs) (after_field_lem f.kind f.size rest (stops fs)) ∙ numbers_written rs fs (omega arith) (and_rest (fits r f) _ e)) i)
 
 -- a limit is known by its kind and its size
-limit_known : (kind : ℕ) (l : Limit) → kind_of l ≡ kind → limit_of kind (size_of l) ≡ l
+limit_known : (kind : Kind) (l : Limit) → kind_of l ≡ kind → limit_of kind (size_of l) ≡ l
 limit_known kind l e = rw (← e) (by_cases l)
   where
     by_cases : (l : Limit) → limit_of (kind_of l) (size_of l) ≡ l
@@ -235,11 +241,11 @@ rate_known : (point : RatePoint) (ns : List ℕ) (i : ℕ)
     → get_or ns i 0 ≡ get_or (map (λ (f : Field). f.size) (rate_fields point)) 0 0
     → get_or ns (suc i) 0 ≡ get_or (map (λ (f : Field). f.size) (rate_fields point)) 1 0
     → rate_from (kind_for point) ns i ≡ point
-rate_known Absent ns i kinds limit delay = refl
-rate_known (Present t) ns i kinds limit delay =
+rate_known None ns i kinds limit delay = refl
+rate_known (Some t) ns i kinds limit delay =
     let known : limit_of rate (get_or ns i 0) ≡ t.limit =
-    ap (limit_of rate) limit ∙ limit_known rate t.limit (ap (λ (ks : List ℕ). get_or ks 0 0) kinds) in
-    λ j. Present (record { limit = known j; delay = delay j })
+    ap (limit_of rate) limit ∙ limit_known rate t.limit (ap (λ (ks : List Kind). get_or ks 0 plain) kinds) in
+    λ j. Some (record { limit = known j; delay = delay j })
 
 -- a line is taken for the kind that it is of
 tag_known : (kind : LineKind) → pick (same (tag kind) (tag GP2)) GP2 GP1 ≡ kind
@@ -262,9 +268,9 @@ scanned_line p e =
     let kind = line_kind p in
     let kinds : map (λ (f : Field). f.kind) (fields_of p) ≡ map (λ (r : Rule). r.kind) (rules kind) =
     same_kinds (rules kind) (fields_of p) e in
-    let limit_at : (i kind : ℕ) (l : Limit) → kind_of l ≡ get_or (map (λ (f : Field). f.kind) (fields_of p)) i 0
-    → kind ≡ get_or (map (λ (r : Rule). r.kind) (rules (line_kind p))) i 0 → limit_of kind (size_of l) ≡ l =
-    λ i kind l a b. limit_known kind l (a ∙ ap (λ (ks : List ℕ). get_or ks i 0) kinds ∙ sym b) in
+    let limit_at : (i : ℕ) (kind : Kind) (l : Limit) → kind_of l ≡ get_or (map (λ (f : Field). f.kind) (fields_of p)) i plain
+    → kind ≡ get_or (map (λ (r : Rule). r.kind) (rules (line_kind p))) i plain → limit_of kind (size_of l) ≡ l =
+    λ i kind l a b. limit_known kind l (a ∙ ap (λ (ks : List Kind). get_or ks i plain) kinds ∙ sym b) in
     let rate_point = rate_known p.rate_of_change (map (λ (f : Field). f.size) (fields_of p)) 11 (ap (drop 11) kinds) refl refl in
     ap (λ (k : LineKind). profile_from k (line_of p) (numbers_in (rules k) (drop 8 (line_of p)))) (kind_again p)
     ∙ ap (profile_from kind (line_of p)) (numbers_written (rules kind) (fields_of p) (tops_allowed kind) e)
@@ -284,53 +290,12 @@ scanned_line p e =
 
 -- ---- reading field by field, at places of the line
 
-module _ (line : List ℕ) (at kind : ℕ) where
-  past : drop (length (lead kind)) (drop at line) ≡ drop (at + length (lead kind)) line
-  past = drop-drop (length (lead kind)) at line
-
-  -- nothing stands past the end
-  pub field_missing : length line < at + length (lead kind) → FieldAt line at kind (record { value = 0; end = length line })
-  unfolding field_number after_field leading_number after_number leading_digits value_from
-  field_missing h =
-      let beyond : length line ≤ at + length (lead kind) = omega arith in
-      let none : drop (length (lead kind)) (drop at line) ≡ [] = past ∙ drop_of_length-le line beyond in
-      record {
-        value = sym (ap leading_number none);
-        after = drop-length line ∙ sym (ap after_number none);
-        within = omega arith;
-      }
-
-  pub field_found : {r : Number} → at + length (lead kind) ≤ length line → NumberAt line (at + length (lead kind)) r
-      → FieldAt line at kind r
-  unfolding field_number after_field
-  field_found h found =
-      record {
-        value = found.value ∙ sym (ap leading_number past);
-        after = found.after ∙ sym (ap after_number past);
-        within = found.within h;
-      }
-
-  -- a field's number stands behind its lead
-  pub field_behind : {r : Number} → NumberBehind line at (length (lead kind)) r → FieldAt line at kind r
-  unfolding field_number after_field
-  field_behind found = record { value = found.value; after = found.after; within = found.within }
-
-  pub trip_found : {limit : Limit} {size delay : Number} → FieldAt line at kind size → FieldAt line size.end plain delay
-      → limit ≡ limit_of kind size.value
-      → TripAt line at kind (record { trip = record { limit = limit; delay = delay.value }; end = delay.end })
-  trip_found size delay limit =
-      record {
-        limit = limit ∙ ap (limit_of kind) size.value;
-        delay = delay.value ∙ ap (field_number plain) size.after;
-        after = delay.after ∙ ap (after_field plain) size.after;
-        within = delay.within;
-      }
-
--- the same, with the bytes from that place on under another name
-abbrev after_trip : ℕ → List ℕ → List ℕ
+-- what follows a trip point
+abbrev after_trip : Kind → List ℕ → List ℕ
 after_trip kind bytes = after_field plain (after_field kind bytes)
 
-module _ {line bytes : List ℕ} {at kind : ℕ} (here : drop at line ≡ bytes) where
+-- what was read at a place, where the bytes from that place on have another name
+module _ {line bytes : List ℕ} {at : ℕ} {kind : Kind} (here : drop at line ≡ bytes) where
   number_is : {r : Number} → FieldAt line at kind r → r.value ≡ field_number kind bytes
   number_is f = f.value ∙ ap (field_number kind) here
 
@@ -345,23 +310,17 @@ module _ {line bytes : List ℕ} {at kind : ℕ} (here : drop at line ≡ bytes)
   trip_after : {r : TripRead} → TripAt line at kind r → drop r.end line ≡ after_trip kind bytes
   trip_after t = t.after ∙ ap (after_trip kind) here
 
--- the rate point stands only in the kind of line that has one
-module _ (line : List ℕ) (at : ℕ) where
-  pub rate_found : {r : TripRead} → same (take 4 line) (tag GP2) ≡ true → TripAt line at rate r
-      → RateAt line at (Present r.trip)
-  rate_found e t = rw e (ap Present (trip_is refl t))
+-- what `starts_with` says
+eqb_swap : (a b : ℕ) → eqb a b ≡ eqb b a
+eqb_swap a b = grind arith
 
-  pub rate_missing : same (take 4 line) (tag GP2) ≡ false → RateAt line at Absent
-  rate_missing e = rw e
-
--- a line begins with the tag of its kind where it begins with that of either kind
-module _ (line : List ℕ) where
-  pub tag_rated : same (take 4 line) (tag GP2) ≡ true → true ≡ same (take 4 line) (tag (kind_in line))
-  tag_rated e = sym (ap (λ (b : Bool). same (take 4 line) (tag (pick b GP2 GP1))) e ∙ e)
-
-  pub tag_other : {r : Bool} → same (take 4 line) (tag GP2) ≡ false → r ≡ same (take 4 line) (tag GP1)
-      → r ≡ same (take 4 line) (tag (kind_in line))
-  tag_other e f = f ∙ sym (ap (λ (b : Bool). same (take 4 line) (tag (pick b GP2 GP1))) e)
+pub begins : (front bytes : List ℕ) → pointwise eqb front bytes ≡ same bytes front
+unfolding same
+begins [] [] = refl
+begins [] (y ∷ ys) = refl
+begins (x ∷ xs) [] = refl
+begins (x ∷ xs) (y ∷ ys) =
+    rw (eqb_swap x y) (elim (eqb y x) as (λ b. (b && pointwise eqb xs ys) ≡ pick b (same ys xs) false) [ true ↦ begins xs ys | false ↦ refl ])
 
 -- the numbers past those of the fields that every line has
 rate_scanned : (kind : LineKind) (bytes : List ℕ) (ns : List ℕ) (i : ℕ)
@@ -370,7 +329,7 @@ rate_scanned : (kind : LineKind) (bytes : List ℕ) (ns : List ℕ) (i : ℕ)
     → rate_in kind bytes ≡ rate_from kind ns i
 unfolding numbers_in
 rate_scanned GP1 bytes ns i limit delay = refl
-rate_scanned GP2 bytes ns i limit delay = λ j. Present (record { limit = limit_of rate (sym limit j); delay = sym delay j })
+rate_scanned GP2 bytes ns i limit delay = λ j. Some (record { limit = limit_of rate (sym limit j); delay = sym delay j })
 
 -- a line that was read field by field was scanned
 module _ {line : List ℕ} {serial volts hertz : Number} {over_voltage under_voltage over_frequency under_frequency : TripRead}

@@ -9,18 +9,14 @@ use lib.Dec.{T, leb, eqb}
 use lib.ListN.{length, take, drop}
 use native.Mathlib.Decide.{dec_lt}
 use borrow.Author.Tests.{leb-true, eqb-true, le-leb, lt-leb, eq-eqb, ne_eqb, not-true, not-false}
-use Rattle.outcome.specs.Answer.{Check, ◌unless◌, Passed}
+use Rattle.outcome.specs.Answer.{Check, ◌unless◌, Passed, pick}
 use Rattle.decimal.specs.Decimal.{decimal, largest}
 use Rattle.decimal.proofs.Decimal.{length_mono}
 use Rattle.profile.specs.declared.Profile.{Profile}
-use Rattle.outcome.specs.Result.{done, answer}
-use Rattle.profile.specs.Rules.{Range, ◌to◌, contains, in_one_of, share, above, below, plain, number, Field, trip_fields, rate_fields, fields_of, line_kind, one, nominal_hertz, trip_rules, rate_rules, Rule, rules, fits, obeys, Class, class_in, is_class, letters, valid}
-
-abbrev pub lowest : Range → ℕ
-lowest (low to high) = low
-
-abbrev pub highest : Range → ℕ
-highest (low to high) = high
+use Rattle.profile.specs.declared.rules.Kind.{Kind}
+use Rattle.profile.specs.declared.rules.Kind.TheVariants as kinds
+use Rattle.outcome.specs.Result.{Ok, answer}
+use Rattle.profile.specs.Rules.{Range, ◌to◌, low, high, contains, in_one_of, share, above, below, plain, rate, kind_number, same_kind, number, Field, trip_fields, rate_fields, fields_of, line_kind, one, nominal_hertz, trip_rules, rate_rules, Rule, rules, fits, obeys, Class, class_in, is_class, letters, valid}
 
 -- ---- tests
 
@@ -52,12 +48,12 @@ passing {r} e f = sym e ∙ not-false r f
 
 -- ---- checks
 
-pub passed_done : {A : Type 0} (cs : List Check) (a : A) → Passed cs → answer cs a ≡ done a
+pub passed_done : {A : Type 0} (cs : List Check) (a : A) → Passed cs → answer cs a ≡ Ok a
 passed_done [] a ok = refl
 passed_done (r unless true ∷ cs) a ok = passed_done cs a ok.1
 passed_done (r unless false ∷ cs) a ok = absurd ok.0
 
-pub done_passed : {A : Type 0} (cs : List Check) (a b : A) → answer cs a ≡ done b → Passed cs × (a ≡ b)
+pub done_passed : {A : Type 0} (cs : List Check) (a b : A) → answer cs a ≡ Ok b → Passed cs × (a ≡ b)
 done_passed [] a b e = (tt, cc)
 done_passed (r unless true ∷ cs) a b e = let rest = done_passed cs a b e in ((tt, rest.0), rest.1)
 done_passed {A} (r unless false ∷ cs) a b e = let z : ◌≡◌ {A = ℕ} 0 1 = cc in absurd (omega arith)
@@ -84,6 +80,23 @@ one_number a n =
   where
     order : (n a : ℕ) → (n < a) ⊎ ((a < n) ⊎ (n ≡ a))
     order n a = elim (dec_lt n a) [ yes h ↦ inl h | no h ↦ elim (dec_lt a n) [ yes k ↦ inr (inl k) | no k ↦ inr (inr (omega arith)) ] ]
+
+-- ---- kinds
+
+kind_at : ℕ → Kind
+kind_at n =
+    pick (eqb n 0) share (pick (eqb n 1) above (pick (eqb n 2) below (pick (eqb n 3) plain rate)))
+
+kind_again : (k : Kind) → kind_at (kind_number k) ≡ k
+unfolding kind_at
+kind_again kinds.Share = refl
+kind_again kinds.Above = refl
+kind_again kinds.Below = refl
+kind_again kinds.Plain = refl
+kind_again kinds.Rate = refl
+
+pub kinds_equal : (a b : Kind) → same_kind a b ≡ true → a ≡ b
+kinds_equal a b e = sym (kind_again a) ∙ ap kind_at (eqb-true (kind_number a) (kind_number b) e) ∙ kind_again b
 
 -- ---- rules
 
@@ -152,7 +165,7 @@ same_kinds [] [] e = refl
 same_kinds [] (f ∷ fs) e = absurd (false≢true e)
 same_kinds (r ∷ rs) [] e = absurd (false≢true e)
 same_kinds (r ∷ rs) (f ∷ fs) e =
-    let kind : f.kind ≡ r.kind = eqb-true f.kind r.kind (and_first (eqb f.kind r.kind) _ (and_first (fits r f) _ e)) in
+    let kind : f.kind ≡ r.kind = kinds_equal f.kind r.kind (and_first (same_kind f.kind r.kind) _ (and_first (fits r f) _ e)) in
     let others = same_kinds rs fs (and_rest (fits r f) _ e) in
     λ i. kind i ∷ others i
 
@@ -189,21 +202,21 @@ valid_hertz table p ok =
 
 -- ---- what a range says of the digits of its numbers
 
-within : (r : Range) (n : ℕ) → contains r n ≡ true → (lowest r ≤ n) × (n ≤ highest r)
-within (low to high) n e = (leb-true low n (and_first (leb low n) _ e), leb-true n high (and_rest (leb low n) _ e))
+within : (r : Range) (n : ℕ) → contains r n ≡ true → (low r ≤ n) × (n ≤ high r)
+within (l to h) n e = (leb-true l n (and_first (leb l n) _ e), leb-true n h (and_rest (leb l n) _ e))
 
 -- the fewest and the most digits that numbers of some ranges have, and the largest of the numbers
 abbrev pub fewest : List Range → ℕ
 fewest [] = length (decimal largest)
-fewest (r ∷ rs) = min (length (decimal (lowest r))) (fewest rs)
+fewest (r ∷ rs) = min (length (decimal (low r))) (fewest rs)
 
 abbrev pub most : List Range → ℕ
 most [] = 0
-most (r ∷ rs) = max (length (decimal (highest r))) (most rs)
+most (r ∷ rs) = max (length (decimal (high r))) (most rs)
 
 abbrev pub top : List Range → ℕ
 top [] = 0
-top (r ∷ rs) = max (highest r) (top rs)
+top (r ∷ rs) = max (high r) (top rs)
 
 pub range_bounds : (rs : List Range) (n : ℕ) → in_one_of rs n ≡ true
     → (fewest rs ≤ length (decimal n)) × (length (decimal n) ≤ most rs) × (n ≤ top rs)
@@ -212,6 +225,6 @@ range_bounds (r ∷ rs) n e =
     ⊎_elim
     (λ here.
     let bounds = within r n here in
-    omega (arith, length_mono n (lowest r) bounds.0, length_mono (highest r) n bounds.1, bounds))
+    omega (arith, length_mono n (low r) bounds.0, length_mono (high r) n bounds.1, bounds))
     (λ later. let bounds = range_bounds rs n later in omega (arith, bounds))
     (either (contains r n) (in_one_of rs n) e)

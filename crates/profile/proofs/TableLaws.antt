@@ -8,10 +8,10 @@ use native.Mathlib.Omega.{arith}
 use lib.Dec.{eqb}
 use lib.ListN.{length}
 use borrow.Author.Tests.{eq-eqb, ne_eqb, eqb-true}
-use Rattle.outcome.specs.Answer.{bad_profile, pick}
-use Rattle.outcome.specs.Result.{done, refused}
+use Rattle.outcome.specs.Answer.{pick}
+use Rattle.std.proofs.lemmas.Grind.{common_steps}
 use Rattle.words.specs.Words.{word_at}
-use Rattle.profile.specs.Rules.{contains, Class, classes, class_in}
+use Rattle.profile.specs.Rules.{Class, classes}
 use Rattle.profile.specs.Table.{most_rows, row_size, table_size, rows_used, row_at, rows_from, table_of}
 
 -- ---- how many are used
@@ -31,6 +31,8 @@ few_used image = go (eqb (length image) table_size)
     go : (b : Bool) → pick b (min (word_at image 0) most_rows) 0 ≤ most_rows
     go true = omega arith
     go false = omega arith
+
+pub ruleset sizes = (common_steps, other_size, right_size)
 
 -- rows that are used have room in the image
 pub rows_room : (image : List ℕ) → 0 < rows_used image → 4 + row_size * rows_used image ≤ length image
@@ -53,6 +55,8 @@ pub no_row : (image : List ℕ) (i n : ℕ) → n ≤ i → rows_from image i (n
 unfolding rows_from
 no_row image i n h = let none : n - i ≡ 0 = omega arith in rw none
 
+pub ruleset row_by_row = (common_steps, next_row, no_row)
+
 -- ---- the classes that they mean
 
 pub no_rows : (image : List ℕ) → rows_used image ≡ 0 → table_of image ≡ classes
@@ -62,6 +66,8 @@ no_rows image e = rw e
 pub some_rows : (image : List ℕ) → (rows_used image ≡ 0 → ⊥) → table_of image ≡ rows_from image 0 (rows_used image)
 unfolding table_of
 some_rows image h = rw (ne_eqb (rows_used image) 0 h)
+
+pub ruleset meanings = (common_steps, no_rows, some_rows, rows_room)
 
 -- ---- rows that are asked one after the other
 
@@ -89,22 +95,3 @@ module _ {A : Type 0} (asked : List Class → A) (image : List ℕ) (n : ℕ) wh
 
     pub rest_none : n ≤ i → asked [] ≡ asked (rows_from image 0 n)
     rest_none h = sym (ap asked (no_row image i n h)) ∙ before
-
--- what is found in the rows from place i on is what is found in all
-abbrev pub Found : List ℕ → ℕ → ℕ → ℕ → Type 0
-Found image n volts i = class_in (rows_from image i (n - i)) volts ≡ class_in (rows_from image 0 n) volts
-
-module _ (image : List ℕ) (n volts : ℕ) where
-  pub found_first : Found image n volts 0
-  found_first = let all : n - 0 ≡ n = omega arith in ap (λ (m : ℕ). class_in (rows_from image 0 m) volts) all
-
-  module _ (i : ℕ) (before : Found image n volts i) where
-    pub found_here : i < n → contains (row_at image (4 + row_size * i)).volts volts ≡ true
-        → done (word_at image (4 + row_size * i)) ≡ class_in (rows_from image 0 n) volts
-    found_here h here = rw (next_row image i n h, here) at before
-
-    pub found_later : i < n → contains (row_at image (4 + row_size * i)).volts volts ≡ false → Found image n volts (i + 1)
-    found_later h other = rw (next_row image i n h, other) at before
-
-    pub found_nowhere : n ≤ i → refused bad_profile ≡ class_in (rows_from image 0 n) volts
-    found_nowhere h = rw (no_row image i n h) at before

@@ -9,11 +9,11 @@ use borrow.Author.Tests.{le-leb}
 use Rattle.decimal.specs.Decimal.{decimal, last_digits}
 use Rattle.profile.specs.declared.Limit.TheVariants.{Share, Offset, Rate}
 use Rattle.profile.specs.declared.Trip.{Trip}
-use Rattle.profile.specs.declared.RatePoint.{RatePoint}
-use Rattle.profile.specs.declared.RatePoint.TheVariants.{Absent, Present}
+use Rattle.profile.specs.Rules.{RatePoint}
+use Rattle.std.specs.Prelude.{None, Some}
 use Rattle.profile.specs.declared.Profile.{Profile}
 use Rattle.outcome.specs.Lists.{same}
-use Rattle.outcome.specs.Result.{done}
+use Rattle.outcome.specs.Result.{Ok}
 use Rattle.outcome.proofs.Lists.{same_refl, same_equal}
 use Rattle.profile.specs.Rules.{◌to◌, contains, valid, obeys, fields_of, GP1, GP2, line_kind}
 use Rattle.profile.specs.Line.{tag, shortest, longest, field_bytes, written, line_of, kind_in, scanned, read_checks, read_line}
@@ -47,7 +47,7 @@ reads_written table p ok =
     ap (λ (q : Profile). same (line_of q) line) back ∙ same_refl line in
     passed_done (read_checks table line) (scanned line)
     (test _ sized, (test _ tagged, (still_valid, (test _ respelled, tt))))
-    ∙ ap done back
+    ∙ ap Ok back
 
 pub writes_read : WritesRead
 unfolding read_line
@@ -92,15 +92,15 @@ large : RatePoint → Profile
 large point = sample 68 4294967295 1000 999 5000 60000 point
 
 rated : ℕ → ℕ → RatePoint
-rated limit delay = Present (record { limit = Rate limit; delay = delay })
+rated limit delay = Some (record { limit = Rate limit; delay = delay })
 
 pub shortest_reached : Reached GP1 (least GP1)
 unfolding small sample valid obeys fields_of line_of written field_bytes decimal last_digits
-shortest_reached = (small Absent, tt, refl, refl)
+shortest_reached = (small None, tt, refl, refl)
 
 pub longest_plain_reached : Reached GP1 (greatest GP1)
 unfolding large sample valid obeys fields_of line_of written field_bytes decimal last_digits
-longest_plain_reached = (large Absent, tt, refl, refl)
+longest_plain_reached = (large None, tt, refl, refl)
 
 pub shortest_rated_reached : Reached GP2 (least GP2)
 unfolding small sample rated valid obeys fields_of line_of written field_bytes decimal last_digits

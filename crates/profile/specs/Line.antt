@@ -10,16 +10,13 @@ use Rattle.decimal.specs.Decimal.{decimal, leading_number, after_number}
 use Rattle.profile.specs.declared.Limit.{Limit}
 use Rattle.profile.specs.declared.Limit.TheVariants.{Share, Offset, Rate}
 use Rattle.profile.specs.declared.Trip.{Trip}
-use Rattle.profile.specs.declared.RatePoint.{RatePoint}
-use Rattle.profile.specs.declared.RatePoint.TheVariants.{Absent, Present}
+use Rattle.profile.specs.Rules.{RatePoint}
+use Rattle.std.specs.Prelude.{None, Some}
 use Rattle.profile.specs.declared.Profile.{Profile}
-use Rattle.profile.specs.declared.ReadLine.{ReadLine}
-use Rattle.profile.specs.declared.ReadLine.TheVariants as reading
-use Rattle.profile.specs.declared.WriteLine.{WriteLine}
-use Rattle.profile.specs.declared.WriteLine.TheVariants as writing
-use Rattle.outcome.specs.Result.{Result, done, refused, answer, number_in}
+use Rattle.outcome.specs.Result.{Result, answer, number_in}
+use Rattle.profile.specs.declared.rules.Kind.{Kind}
 use Rattle.profile.specs.Table.{table_of}
-use Rattle.profile.specs.Rules.{◌to◌, contains, share, above, below, rate, Field, fields_of, LineKind, GP1, GP2, line_kind, Rule, rules, Class, valid}
+use Rattle.profile.specs.Rules.{◌to◌, contains, share, above, below, rate, same_kind, Field, fields_of, LineKind, GP1, GP2, line_kind, Rule, rules, Class, valid}
 
 -- ---- the line of a profile
 
@@ -48,11 +45,11 @@ abbrev pub longest : ℕ
 longest = 84
 
 -- what stands before a field's digits: a comma, and a minus only where the number is negative
-abbrev pub lead : ℕ → List ℕ
-lead kind = comma ∷ pick (eqb kind below) (minus ∷ []) []
+abbrev pub lead : Kind → List ℕ
+lead kind = comma ∷ pick (same_kind kind below) (minus ∷ []) []
 
 -- a field of this kind with this number; several, one after the other
-unfoldable pub field_bytes : ℕ → ℕ → List ℕ
+unfoldable pub field_bytes : Kind → ℕ → List ℕ
 field_bytes kind size = lead kind ++ decimal size
 
 unfoldable pub written : List Field → List ℕ
@@ -70,10 +67,10 @@ line_of p = head_of p ++ (written (fields_of p) ++ (line_feed ∷ []))
 -- ---- reading
 
 -- the number of a field of this kind with which some bytes begin (0 where there is none), and what follows it
-unfoldable pub field_number : ℕ → List ℕ → ℕ
+unfoldable pub field_number : Kind → List ℕ → ℕ
 field_number kind bytes = leading_number (drop (length (lead kind)) bytes)
 
-unfoldable pub after_field : ℕ → List ℕ → List ℕ
+unfoldable pub after_field : Kind → List ℕ → List ℕ
 after_field kind bytes = after_number (drop (length (lead kind)) bytes)
 
 -- the numbers of the fields that some rules speak of, one after the other
@@ -82,16 +79,17 @@ numbers_in [] bytes = []
 numbers_in (r ∷ rs) bytes = field_number r.kind bytes ∷ numbers_in rs (after_field r.kind bytes)
 
 -- the limit that a field of this kind means
-abbrev pub limit_of : ℕ → ℕ → Limit
-limit_of kind n = pick (eqb kind share) (Share n) (pick (eqb kind rate) (Rate n) (Offset (eqb kind below) n))
+abbrev pub limit_of : Kind → ℕ → Limit
+limit_of kind n =
+    pick (same_kind kind share) (Share n) (pick (same_kind kind rate) (Rate n) (Offset (same_kind kind below) n))
 
 -- a trip point from two numbers, the first of them at place i
-abbrev pub trip_from : ℕ → List ℕ → ℕ → Trip
+abbrev pub trip_from : Kind → List ℕ → ℕ → Trip
 trip_from kind ns i = record { limit = limit_of kind (get_or ns i 0); delay = get_or ns (suc i) 0 }
 
 abbrev pub rate_from : LineKind → List ℕ → ℕ → RatePoint
-rate_from GP1 ns i = Absent
-rate_from GP2 ns i = Present (trip_from rate ns i)
+rate_from GP1 ns i = None
+rate_from GP2 ns i = Some (trip_from rate ns i)
 
 -- a profile from a line's kind, from its country and class and from the numbers of its fields
 abbrev pub profile_from : LineKind → List ℕ → List ℕ → Profile
@@ -129,18 +127,12 @@ read_checks table line =
 unfoldable pub read_line : List Class → List ℕ → Result Profile
 read_line table line = answer (read_checks table line) (scanned line)
 
--- what each case of `read_line`'s answer means
-abbrev pub read_answer : ReadLine → Result Profile
-read_answer (reading.Read p) = done p
-read_answer reading.BadSize = refused bad_size
-read_answer reading.BadLine = refused bad_profile
-
 -- an answer is the reading of the line
-abbrev pub Reads : (table : List Class) (line : List ℕ) (r : ReadLine) → Type 0
-Reads table line r = read_answer r ≡ read_line table line
+abbrev pub Reads : (table : List Class) (line : List ℕ) (r : Result Profile) → Type 0
+Reads table line r = r ≡ read_line table line
 
 -- what `read_line` promises: the reading under the table that an image means (document 02, M-108)
-abbrev pub ReadsUnder : (table line : List ℕ) (r : ReadLine) → Type 0
+abbrev pub ReadsUnder : (table line : List ℕ) (r : Result Profile) → Type 0
 ReadsUnder table = Reads (table_of table)
 
 -- ---- writing
@@ -152,17 +144,11 @@ write_checks table p lent = bad_size unless eqb (length lent) longest ∷ bad_pr
 unfoldable pub write_line : List Class → Profile → List ℕ → Result ℕ
 write_line table p lent = answer (write_checks table p lent) (length (line_of p))
 
--- what each case of `write_line`'s answer means
-abbrev pub write_answer : WriteLine → Result ℕ
-write_answer (writing.Written n) = done n
-write_answer writing.BadSize = refused bad_size
-write_answer writing.BadProfile = refused bad_profile
-
 -- the lent bytes hold the line and past it what they held; after a refusal all is as it was
-pub record Writes (table : List Class) (p : Profile) (old : List ℕ) (r : WriteLine) (lent : List ℕ) : Type 0 where
-  pub answered : write_answer r ≡ write_line table p old
+pub record Writes (table : List Class) (p : Profile) (old : List ℕ) (r : Result ℕ) (lent : List ℕ) : Type 0 where
+  pub answered : r ≡ write_line table p old
   pub content : lent ≡ pick (eqb (number_in (write_line table p old)) 0) (line_of p ++ drop (length (line_of p)) old) old
 
 -- what `write_line` promises: the same under the table that an image means (document 02, M-108)
-abbrev pub WritesUnder : (table : List ℕ) (p : Profile) (old : List ℕ) (r : WriteLine) (lent : List ℕ) → Type 0
+abbrev pub WritesUnder : (table : List ℕ) (p : Profile) (old : List ℕ) (r : Result ℕ) (lent : List ℕ) → Type 0
 WritesUnder table = Writes (table_of table)

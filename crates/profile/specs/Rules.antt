@@ -6,12 +6,11 @@ use Rattle.outcome.specs.Answer.{bad_profile, pick}
 use Rattle.profile.specs.declared.Limit.{Limit}
 use Rattle.profile.specs.declared.Limit.TheVariants.{Share, Offset, Rate}
 use Rattle.profile.specs.declared.Trip.{Trip}
-use Rattle.profile.specs.declared.RatePoint.{RatePoint}
-use Rattle.profile.specs.declared.RatePoint.TheVariants.{Absent, Present}
+use Rattle.std.specs.Prelude.{Option, None, Some}
 use Rattle.profile.specs.declared.Profile.{Profile}
-use Rattle.profile.specs.declared.ClassFound.{ClassFound}
-use Rattle.profile.specs.declared.ClassFound.TheVariants.{Letter, OutOfRange}
-use Rattle.outcome.specs.Result.{Result, done, refused}
+use Rattle.profile.specs.declared.rules.Kind.{Kind}
+use Rattle.profile.specs.declared.rules.Kind.TheVariants as kinds
+use Rattle.outcome.specs.Result.{Result, Ok, Err}
 
 -- ---- numbers and ranges, both ends included
 
@@ -37,27 +36,39 @@ in_one_of (r ∷ rs) n = contains r n || in_one_of rs n
 
 -- what a field's number is: a share of the nominal voltage, an offset above or below the nominal frequency, plain, or a rate of
 -- change of frequency
-abbrev pub share : ℕ
-share = 0
+abbrev pub share : Kind
+share = kinds.Share
 
-abbrev pub above : ℕ
-above = 1
+abbrev pub above : Kind
+above = kinds.Above
 
-abbrev pub below : ℕ
-below = 2
+abbrev pub below : Kind
+below = kinds.Below
 
-abbrev pub plain : ℕ
-plain = 3
+abbrev pub plain : Kind
+plain = kinds.Plain
 
-abbrev pub rate : ℕ
-rate = 4
+abbrev pub rate : Kind
+rate = kinds.Rate
+
+-- the number of a kind, by which images have it
+abbrev pub kind_number : Kind → ℕ
+kind_number kinds.Share = 0
+kind_number kinds.Above = 1
+kind_number kinds.Below = 2
+kind_number kinds.Plain = 3
+kind_number kinds.Rate = 4
+
+-- two kinds are the same
+abbrev pub same_kind : Kind → Kind → Bool
+same_kind a b = eqb (kind_number a) (kind_number b)
 
 -- a field of a profile: its kind, and its number without a sign
 pub record Field : Type 0 where
-  pub kind : ℕ
+  pub kind : Kind
   pub size : ℕ
 
-abbrev pub kind_of : Limit → ℕ
+abbrev pub kind_of : Limit → Kind
 kind_of (Share n) = share
 kind_of (Offset under n) = pick under below above
 kind_of (Rate n) = rate
@@ -74,10 +85,14 @@ number n = record { kind = plain; size = n }
 abbrev pub trip_fields : Trip → List Field
 trip_fields t = record { kind = kind_of t.limit; size = size_of t.limit } ∷ number t.delay ∷ []
 
+-- the trip point that not every profile has
+abbrev pub RatePoint : Type 0
+RatePoint = Option Trip
+
 -- the rate point has them only where it is present
 abbrev pub rate_fields : RatePoint → List Field
-rate_fields Absent = []
-rate_fields (Present t) = trip_fields t
+rate_fields None = []
+rate_fields (Some t) = trip_fields t
 
 unfoldable pub fields_of : Profile → List Field
 fields_of p =
@@ -98,8 +113,8 @@ pub data LineKind : Type 0 where
   GP2 : LineKind
 
 abbrev pub kind_for : RatePoint → LineKind
-kind_for Absent = GP1
-kind_for (Present t) = GP2
+kind_for None = GP1
+kind_for (Some t) = GP2
 
 -- the kind of a profile's line
 abbrev pub line_kind : Profile → LineKind
@@ -107,17 +122,17 @@ line_kind p = kind_for p.rate_of_change
 
 -- a field's kind, and the ranges of its number; an offset below nominal is given by its size, 1 to 5000 for −5000 to −1
 pub record Rule : Type 0 where
-  pub kind : ℕ
+  pub kind : Kind
   pub ranges : List Range
 
 -- a rule with one range
-abbrev pub one : ℕ → Range → Rule
+abbrev pub one : Kind → Range → Rule
 one kind range = record { kind = kind; ranges = range ∷ [] }
 
 abbrev pub delays : Range
 delays = 20 to 60000
 
-abbrev pub trip_rules : ℕ → Range → List Rule
+abbrev pub trip_rules : Kind → Range → List Rule
 trip_rules kind limits = one kind limits ∷ one plain delays ∷ []
 
 abbrev pub rate_rules : LineKind → List Rule
@@ -142,7 +157,7 @@ rules kind =
     ++ rate_rules kind))))
 
 abbrev pub fits : Rule → Field → Bool
-fits r f = eqb f.kind r.kind && in_one_of r.ranges f.size
+fits r f = same_kind f.kind r.kind && in_one_of r.ranges f.size
 
 -- each field fits its rule, and there are as many fields as rules
 unfoldable pub obeys : List Rule → List Field → Bool
@@ -166,13 +181,17 @@ classes = class 65 (100 to 139) ∷ class 66 (140 to 259) ∷ class 67 (260 to 5
 
 -- the class of nominal volts under a table, or the refusal that a broken field rule gives
 abbrev pub class_in : List Class → ℕ → Result ℕ
-class_in [] n = refused bad_profile
-class_in (c ∷ cs) n = pick (contains c.volts n) (done c.letter) (class_in cs n)
+class_in [] n = Err bad_profile
+class_in (c ∷ cs) n = pick (contains c.volts n) (Ok c.letter) (class_in cs n)
+
+-- a class that may be found
+abbrev pub ClassFound : Type 0
+ClassFound = Option ℕ
 
 -- what each case of `class_of`'s answer means
 abbrev pub class_answer : ClassFound → Result ℕ
-class_answer (Letter c) = done c
-class_answer OutOfRange = refused bad_profile
+class_answer (Some c) = Ok c
+class_answer None = Err bad_profile
 
 -- what `class_of` promises: its answer is the class of the volts
 abbrev pub Classifies : (table : List Class) (volts : ℕ) (r : ClassFound) → Type 0
@@ -180,8 +199,8 @@ Classifies table volts r = class_answer r ≡ class_in table volts
 
 -- a class was found, and is this letter
 abbrev pub is_class : Result ℕ → ℕ → Bool
-is_class (done c) letter = eqb letter c
-is_class (refused r) letter = false
+is_class (Ok c) letter = eqb letter c
+is_class (Err r) letter = false
 
 -- ---- a valid profile, under a class table
 

@@ -10,7 +10,7 @@ mod write;
 ghost use Rattle.profile.specs.Rules.{classes, Classifies};
 ghost use Rattle.profile.specs.Line.{ReadsUnder, WritesUnder};
 
-use buffers::equal;
+use outcome::Refusal;
 use rules::valid;
 use scan::{is_tagged, scan};
 use write::append_line;
@@ -36,15 +36,8 @@ pub struct Trip {
     pub delay: u32,
 }
 
-// The trip point that not every profile has.
-#[derive(Clone, Copy)]
-pub enum RatePoint {
-    Absent,
-    Present(Trip),
-}
-
 // The two letters of a country.
-#[derive(Clone, Copy)]
+#[derive(Clone, Copy, PartialEq, Eq)]
 pub struct Country {
     pub first: u8,
     pub second: u8,
@@ -62,79 +55,56 @@ pub struct Profile {
     pub under_voltage: Trip,
     pub over_frequency: Trip,
     pub under_frequency: Trip,
-    pub rate_of_change: RatePoint,
-}
-
-// The class letter of nominal volts, where they have one. In a table it may be any number.
-#[derive(Clone, Copy)]
-pub enum ClassFound {
-    Letter(u32),
-    OutOfRange,
-}
-
-// A line is read as a profile; or it is not 42 to 84 bytes long; or it breaks a rule.
-#[derive(Drop)]
-pub enum ReadLine {
-    Read(Profile),
-    BadSize,
-    BadLine,
-}
-
-// A line is written, and is this long; or the buffer is not 84 bytes long; or the profile breaks a rule.
-#[derive(Drop)]
-pub enum WriteLine {
-    Written(usize),
-    BadSize,
-    BadProfile,
+    // the trip point that not every profile has
+    pub rate_of_change: Option<Trip>,
 }
 
 // The built-in class by nominal volts; 65 is A.
-pub fn class_of(volts: u32) -> ClassFound
+pub fn class_of(volts: u32) -> Option<u32>
     ensures { Classifies classes volts result }
 {
     match volts {
-        100..=139 => ClassFound::Letter(65),
-        140..=259 => ClassFound::Letter(66),
-        260..=519 => ClassFound::Letter(67),
-        520..=1000 => ClassFound::Letter(68),
-        _ => ClassFound::OutOfRange,
+        100..=139 => Some(65),
+        140..=259 => Some(66),
+        260..=519 => Some(67),
+        520..=1000 => Some(68),
+        _ => None,
     }
 }
 
 // Takes the numbers from where a line has them, and reads the line only if it is the line of what was found.
-pub fn read_line(table: &[u8], line: &[u8]) -> ReadLine
+#[tactic(auto, unfolding(crate::specs::Line::read_line), using(crate::proofs::EntryLaws::reading))]
+pub fn read_line(table: &[u8], line: &[u8]) -> Result<Profile, Refusal>
     ensures { ReadsUnder table.now line.now result }
 {
-    if line.len() < SHORTEST {
-        return ReadLine::BadSize;
-    }
-    if line.len() > LONGEST {
-        return ReadLine::BadSize;
+    if line.len() < SHORTEST || line.len() > LONGEST {
+        return Err(Refusal::BadSize);
     }
     if !is_tagged(line) {
-        return ReadLine::BadLine;
+        return Err(Refusal::BadProfile);
     }
     let p = scan(line);
     if !valid(table, p) {
-        return ReadLine::BadLine;
+        return Err(Refusal::BadProfile);
     }
     let mut again = [0u8; LONGEST];
     let end = append_line(p, &mut again);
-    if equal(&again[..end], line) {
-        return ReadLine::Read(p);
+    if &again[..end] != line {
+        return Err(Refusal::BadProfile);
     }
-    ReadLine::BadLine
+    Ok(p)
 }
 
 // Writes the line of a profile at the front of 84 lent bytes.
-pub fn write_line(table: &[u8], p: Profile, out: &mut [u8]) -> WriteLine
+#[tactic(auto, unfolding(crate::specs::Line::write_line), using(crate::proofs::EntryLaws::writing))]
+pub fn write_line(table: &[u8], p: Profile, out: &mut [u8]) -> Result<usize, Refusal>
     ensures { WritesUnder table.now p out.old result out.new }
 {
     if out.len() != LONGEST {
-        return WriteLine::BadSize;
+        return Err(Refusal::BadSize);
     }
     if !valid(table, p) {
-        return WriteLine::BadProfile;
+        return Err(Refusal::BadProfile);
     }
-    WriteLine::Written(append_line(p, out))
+    Ok(append_line(p, out))
 }

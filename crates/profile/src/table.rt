@@ -3,8 +3,8 @@ ghost use Rattle.std.specs.Prelude.{◌≡◌, ◌+◌, ◌*◌, ◌≤◌, leng
 ghost use Rattle.profile.specs.Rules.{Classifies};
 ghost use Rattle.profile.specs.Table.{row_size, rows_used, rows_from, table_of};
 
+use super::class_of;
 use super::rules::within;
-use super::{ClassFound, class_of};
 use words::word_at;
 
 // How many rows an image has.
@@ -19,6 +19,7 @@ pub const FIRST_ROW: usize = 4;
 pub const TABLE_SIZE: usize = FIRST_ROW + ROW_SIZE * MOST_ROWS;
 
 // How many rows are used: none is the table of the built-in classes, and so is an image of another size.
+#[tactic(auto, using(crate::proofs::TableLaws::sizes))]
 pub fn rows_used(table: &[u8]) -> usize
     ensures { result ≡ rows_used table.now }
 {
@@ -26,32 +27,29 @@ pub fn rows_used(table: &[u8]) -> usize
         return 0;
     }
     let count = word_at(table, 0) as usize;
-    if count > MOST_ROWS {
-        return MOST_ROWS;
-    }
-    count
+    count.min(MOST_ROWS)
 }
 
 // The class by nominal volts under the first rows of a table.
-fn class_in_rows(table: &[u8], rows: usize, volts: u32) -> ClassFound
+#[tactic(auto, using(crate::proofs::TableLaws::row_by_row))]
+fn class_in_rows(table: &[u8], rows: usize, volts: u32) -> Option<u32>
     requires { 4 + row_size * rows ≤ length table.now }
     ensures { Classifies (rows_from table.now 0 rows) volts result }
 {
-    let mut i: usize = 0;
-    while i < rows {
+    for i in 0..rows {
         let at = FIRST_ROW + ROW_SIZE * i;
         let low = word_at(table, at + 4);
         let high = word_at(table, at + 8);
         if within(volts, low, high) {
-            return ClassFound::Letter(word_at(table, at));
+            return Some(word_at(table, at));
         }
-        i += 1;
     }
-    ClassFound::OutOfRange
+    None
 }
 
 // The class by nominal volts under a table.
-pub fn class_in(table: &[u8], volts: u32) -> ClassFound
+#[tactic(auto, using(crate::proofs::TableLaws::meanings))]
+pub fn class_in(table: &[u8], volts: u32) -> Option<u32>
     ensures { Classifies (table_of table.now) volts result }
 {
     let rows = rows_used(table);

@@ -2,38 +2,51 @@
 -- Assumes nothing.
 use mathlib.Core.Path.{◌≡◌, ◌∙◌, sym, ap}
 use mathlib.Core.Bool.{true, false}
-use mathlib.Core.List.{List, ◌++◌, append_assoc}
-use Prim.Native.Nat.{ℕ, ◌+◌, ◌-◌, ◌*◌, ◌/◌, ◌<◌, ◌≤◌}
+use mathlib.Core.List.{List, [], ◌∷◌, ◌++◌, append_assoc, append-nil}
+use Prim.Native.Nat.{ℕ, ◌+◌, ◌*◌, ◌/◌, ◌<◌, ◌≤◌, min}
 use native.Mathlib.Omega.{arith}
 use borrow.Author.Tests.{le-leb, lt-leb}
 use lib.Dec.{leb}
-use lib.ListN.{length, take, drop, length-append}
-use lib.Seq.{length-take-le, take-append-le, take-take}
-use Rattle.packing.specs.Packing.{number, digits}
+use lib.ListN.{length, take, length-append}
+use lib.Seq.{length-take-le, take-append-le, take-take, take_all}
+use Rattle.packing.specs.Packing.{number, digits, unpack}
 use Rattle.packing.proofs.Below.{Below}
 use Rattle.sampling.specs.Sampling.{fields, keep, yield, sample, enough}
 use Rattle.sampling.specs.InnerScratch.{Sampled}
-use Rattle.sampling.proofs.Fields.{fields_at, fields_rest}
+use Rattle.sampling.proofs.Fields.{fields_none, fields_group}
 use Rattle.sampling.proofs.Kept.{keep_append}
 
--- the bytes from a place on, when they are fewer than a group
-pub draws_rest : (w m d at : ℕ) (block front next : List ℕ) →
-    next ≡ front ++ keep m d (digits w (8 * (length block - at) / w) (number 8 (take (length block - at) (drop at block)))) →
-    next ≡ front ++ yield w m d (drop at block)
+-- what some bytes yield
+pub yield_bytes : (w m d x : ℕ) (bytes : List ℕ) → length bytes ≡ x →
+    keep m d (digits w (8 * x / w) (number 8 (take x bytes))) ≡ yield w m d bytes
+unfolding fields unpack yield
+yield_bytes w m d x bytes e = rw (← e, take_all (length bytes) bytes (omega arith))
+
+yield_none : (w m d : ℕ) → 0 < w → yield w m d [] ≡ []
+unfolding yield keep
+yield_none w m d pos = rw (fields_none w [] (omega arith))
+
+-- a block is read in groups of w bytes, of which the last may be shorter
+yield_whole : (w m d : ℕ) (group later : List ℕ) → Below 256 (group ++ later) → 0 < w → length group ≡ w →
+    yield w m d (group ++ later) ≡ yield w m d group ++ yield w m d later
 unfolding yield
-draws_rest w m d at block front next e = rw (fields_rest w at block) e
+yield_whole w m d group later b pos full =
+    rw (fields_group w group later b pos full) (keep_append m d (fields w group) (fields w later))
+
+yield_group : (w m d : ℕ) (group later : List ℕ) → Below 256 (group ++ later) → 0 < w →
+    length group ≡ min w (length (group ++ later)) → yield w m d (group ++ later) ≡ yield w m d group ++ yield w m d later
+yield_group w m d group [] b pos e = rw (yield_none w m d pos, append-nil, append-nil)
+yield_group w m d group (y ∷ ys) b pos e =
+    yield_whole w m d group (y ∷ ys) b pos (omega (arith, length-append group (y ∷ ys)))
+
+-- one more group of the bytes that are left
+pub draws_more : (w m d : ℕ) (rest group later front next all : List ℕ) → Below 256 rest → 0 < w → rest ≡ group ++ later →
+    length group ≡ min w (length rest) → next ≡ front ++ yield w m d group → front ++ yield w m d rest ≡ all →
+    next ++ yield w m d later ≡ all
+draws_more w m d rest group later front next all b pos e l kept so_far =
+    rw (kept, append_assoc, ← (yield_group w m d group later (rw e at b) pos (rw e at l)), ← e) so_far
 
 module _ (w m d : ℕ) {block : List ℕ} where
-  -- one more group of w bytes, which is eight fields
-  pub draws_more : (at : ℕ) (front next : List ℕ) → Below 256 block → 0 < w → at + w ≤ length block →
-      next ≡ front ++ keep m d (digits w 8 (number 8 (take w (drop at block)))) →
-      next ++ yield w m d (drop (at + w) block) ≡ front ++ yield w m d (drop at block)
-  unfolding yield
-  draws_more at front next b pos h e =
-      let group : List ℕ = digits w 8 (number 8 (take w (drop at block))) in
-      let eight : 8 * w ≡ w * 8 = omega arith in
-      rw (e, append_assoc, fields_at w 8 w at b pos eight h, keep_append m d group (fields w (drop (at + w) block)))
-
   -- enough are kept: the rest of the block does not matter
   pub sampled_enough : (n got : ℕ) (scratch rest : List ℕ) → n ≤ got → got ≤ length scratch →
       take got scratch ++ rest ≡ yield w m d block → Sampled w m d n block got scratch
@@ -50,13 +63,15 @@ module _ (w m d : ℕ) {block : List ℕ} where
       }
 
   -- the whole block is read: what is kept is all that it yields
-  pub sampled_all : (n got : ℕ) (scratch : List ℕ) → got ≤ length scratch → take got scratch ≡ yield w m d block →
-      Sampled w m d n block got scratch
+  pub sampled_all : (n got : ℕ) (scratch rest : List ℕ) → 0 < w → got ≤ length scratch → length rest ≡ 0 →
+      take got scratch ++ yield w m d rest ≡ yield w m d block → Sampled w m d n block got scratch
   unfolding sample enough
-  sampled_all n got scratch room e =
+  sampled_all n got scratch (x ∷ rest) pos room none e = absurd (omega arith)
+  sampled_all n got scratch [] pos room none e =
+      let all : take got scratch ≡ yield w m d block = rw (yield_none w m d pos, append-nil) at e in
       record {
-        suffices = ap (leb n) (sym (length-take-le got scratch room) ∙ ap length e);
-        content = λ many. sym (take-take n got scratch many) ∙ ap (take n) e;
+        suffices = ap (leb n) (sym (length-take-le got scratch room) ∙ ap length all);
+        content = λ many. sym (take-take n got scratch many) ∙ ap (take n) all;
       }
 
 -- what such a draw says of the block

@@ -1,12 +1,12 @@
 -- A block read in groups of whole fields, for every width. Assumes nothing.
 use mathlib.Core.Path.{◌≡◌, refl, ◌∙◌, sym, ap}
 use mathlib.Core.List.{List, [], ◌∷◌, ◌++◌}
-use Prim.Native.Nat.{ℕ, zero, suc, ◌+◌, ◌-◌, ◌*◌, ◌/◌, ◌%◌, ◌^◌, ◌<◌, ◌≤◌}
-use native.Mathlib.Nat.{mul-add-div, div-eq_of_lt, div-lt_iff_lt-mul}
+use Prim.Native.Nat.{ℕ, zero, suc, ◌+◌, ◌*◌, ◌/◌, ◌%◌, ◌^◌, ◌<◌, ◌≤◌}
+use native.Mathlib.Nat.{mul-add-div, mul-div_cancel, div-eq_of_lt}
 use native.Mathlib.Numerals.{add-one}
 use native.Mathlib.Omega.{arith}
-use lib.ListN.{length, get_or, take, drop, length-drop}
-use lib.Seq.{drop-drop, drop-cons, take_all}
+use lib.ListN.{length, get_or, take, drop, length-append, length-drop}
+use lib.Seq.{drop-drop, drop-cons, take_at, drop_at}
 use Rattle.packing.specs.Packing.{number, digits, unpack}
 use Rattle.packing.proofs.Below.{Below, below_drop, below_at}
 use Rattle.packing.proofs.Base.{length_digits, digits_below, digits_add, digits_mod_pow, number_take, number_drop}
@@ -19,6 +19,10 @@ length_fields w block = length_digits w (8 * length block / w) (number 8 block)
 pub fields_below : (w : ℕ) (block : List ℕ) → Below (2 ^ w) (fields w block)
 unfolding fields unpack
 fields_below w block = digits_below w (8 * length block / w) (number 8 block)
+
+fields_eight : (w : ℕ) (group : List ℕ) → 8 * length group / w ≡ 8 → digits w 8 (number 8 group) ≡ fields w group
+unfolding fields unpack
+fields_eight w group e = ap (λ (k : ℕ). digits w k (number 8 group)) (sym e)
 
 -- x bytes that are m whole fields, and the rest
 pub fields_split : (w m x : ℕ) {block : List ℕ} → Below 256 block → 0 < w → 8 * x ≡ w * m → x ≤ length block →
@@ -66,21 +70,22 @@ fields_16 at {block} b h =
     in
     fields_at 16 1 2 at b (omega arith) refl h ∙ ap (λ (r : ℕ). r ∷ fields 16 (drop (at + 2) block)) field
 
--- what is left from a place on, as one number; fewer than w bytes hold fewer than eight fields
-pub fields_rest : (w at : ℕ) (block : List ℕ) →
-    fields w (drop at block) ≡ digits w (8 * (length block - at) / w) (number 8 (take (length block - at) (drop at block)))
-unfolding fields unpack
-fields_rest w at block =
-    let left : length (drop at block) ≡ length block - at = length-drop at block in
-    let whole : take (length block - at) (drop at block) ≡ drop at block =
-    take_all (length block - at) (drop at block) (omega arith)
-    in
-    rw (whole, left)
+-- the two bytes in front, and what stands behind them
+pub fields_pair : (pair later : List ℕ) → Below 256 (pair ++ later) → length pair ≡ 2 →
+    fields 16 (pair ++ later) ≡ (get_or pair 0 0 + 256 * get_or pair 1 0) ∷ fields 16 later
+fields_pair [] later b e = absurd (omega arith)
+fields_pair (x ∷ []) later b e = absurd (omega arith)
+fields_pair (x ∷ (y ∷ [])) later b e = fields_16 0 b (omega arith)
+fields_pair (x ∷ (y ∷ (z ∷ zs))) later b e = absurd (omega arith)
 
-pub rest_few : (w x : ℕ) → x < w → 8 * x / w < 8
-rest_few w x h =
-    let some : 0 < w = omega arith in
-    (div-lt_iff_lt-mul some).1 (omega arith)
+-- w bytes are eight fields
+pub fields_group : (w : ℕ) (group later : List ℕ) → Below 256 (group ++ later) → 0 < w → length group ≡ w →
+    fields w (group ++ later) ≡ fields w group ++ fields w later
+fields_group w group later b pos e =
+    let eight : 8 * length group / w ≡ 8 = rw e (mul-div_cancel 8 pos) in
+    let whole : digits w 8 (number 8 group) ≡ fields w group = fields_eight w group eight in
+    fields_split w 8 w b pos (omega arith) (omega (arith, length-append group later)) ∙
+    rw (take_at group later w e, drop_at group later w e, whole)
 
 -- field i of sixteen bits is at bytes 2 i and 2 i + 1
 fields_16_from : (i at : ℕ) {block : List ℕ} → Below 256 block → at + 2 * i + 2 ≤ length block →

@@ -2,7 +2,7 @@
 use mathlib.Core.Path.{◌≡◌, refl}
 use mathlib.Core.Bool.{Bool, true, false}
 use mathlib.Core.List.{List, [], ◌∷◌, ◌++◌, append_assoc, append-nil}
-use Prim.Native.Nat.{ℕ, zero, suc, ◌+◌, ◌-◌, ◌/◌, ◌%◌, ◌^◌, ◌<◌, ◌≤◌}
+use Prim.Native.Nat.{ℕ, zero, suc, ◌+◌, ◌*◌, ◌/◌, ◌%◌, ◌^◌, ◌<◌, ◌≤◌}
 use native.Mathlib.Nat.{le_of_suc-le-suc, not-suc-le-zero}
 use native.Mathlib.Numerals.{add-one}
 use native.Mathlib.Omega.{arith}
@@ -13,6 +13,7 @@ use lib.Seq.{get_or-take, length-take-le, take-set-le, take-suc-set}
 use Rattle.outcome.specs.Answer.{pick}
 use Rattle.packing.specs.Packing.{digits}
 use Rattle.packing.proofs.Below.{Below, none, more, below_take}
+use Rattle.packing.proofs.Groups.{digits_more}
 use Rattle.sampling.specs.Sampling.{keep, enough, yield, sample}
 
 -- ---- fields are kept one by one
@@ -27,20 +28,12 @@ keep_append m d [] ys = refl
 keep_append m d (x ∷ xs) ys =
     rw (keep_append m d xs ys) (pick_append (ltb x m) (x + d) (keep m d xs) (keep m d ys))
 
--- ---- the n fields of a number, kept from the lowest on: those before field i are in front, the others are in v
-
-module _ (m d w n i v : ℕ) (front : List ℕ) where
-  pub kept_more : (next : List ℕ) → i < n → next ≡ front ++ keep m d ((v % 2 ^ w) ∷ []) →
-      next ++ keep m d (digits w (n - (i + 1)) (v / 2 ^ w)) ≡ front ++ keep m d (digits w (n - i) v)
-  unfolding digits
-  kept_more next h e =
-      let left : n - i ≡ suc (n - (i + 1)) = omega arith in
-      let rest : List ℕ = digits w (n - (i + 1)) (v / 2 ^ w) in
-      rw (e, append_assoc, left, ← (keep_append m d ((v % 2 ^ w) ∷ []) rest))
-
-  pub kept_all : n ≤ i → front ++ keep m d (digits w (n - i) v) ≡ front
-  unfolding digits keep
-  kept_all h = let left : n - i ≡ 0 = omega arith in rw (left, append-nil)
+-- field k of a number is kept behind those before it
+pub kept_more : (m d w k v left : ℕ) (front next : List ℕ) → left ≡ v / 2 ^ (w * k) →
+    next ≡ (front ++ keep m d (digits w k v)) ++ keep m d ((left % 2 ^ w) ∷ []) →
+    next ≡ front ++ keep m d (digits w (k + 1) v)
+kept_more m d w k v left front next l e =
+    rw (e, l, append_assoc, ← (keep_append m d (digits w k v) ((v / 2 ^ (w * k) % 2 ^ w) ∷ [])), ← (digits_more w k v))
 
 -- ---- a list filled from the front: x + d is stored behind the got first, and counts where x is below m
 

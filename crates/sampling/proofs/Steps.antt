@@ -1,18 +1,20 @@
 -- The shuffle by its steps: what is left to do after some fields, at position j.
 -- Assumes nothing.
 use mathlib.Core.Path.{◌≡◌, refl, ◌∙◌, sym, ap}
-use mathlib.Core.Bool.{Bool, true, false, false≢true}
-use mathlib.Core.List.{List, [], ◌∷◌, ◌++◌, append-nil}
-use Prim.Native.Nat.{ℕ, zero, suc, ◌+◌, ◌-◌, ◌%◌, ◌<◌, ◌≤◌}
+use mathlib.Core.Bool.{Bool, true, false}
+use mathlib.Core.List.{List, [], ◌∷◌, ◌++◌}
+use Prim.Native.Nat.{ℕ, zero, suc, ◌+◌, ◌-◌, ◌*◌, ◌%◌, ◌<◌, ◌≤◌}
 use native.Mathlib.Omega.{arith}
 use native.Mathlib.Nat.{not-suc-le-zero}
 use lib.Dec.{ltb, leb-suc-suc, leb-suc-zero, leb-zero}
-use lib.ListN.{length, drop, replicate, replicate-append-replicate, length-replicate}
-use lib.Seq.{drop-length, drop_at}
-use Rattle.outcome.specs.Answer.{pick}
+use lib.ListN.{length, get_or, replicate}
+use Rattle.outcome.specs.Answer.{short_draw, pick}
+use Rattle.outcome.proofs.Checks.{number_positive, fails, holds}
+use Rattle.packing.proofs.Below.{Below}
 use Rattle.sampling.specs.Sampling.{fields, enough}
 use Rattle.sampling.specs.Shuffle.{limit, partners, exchange, exchanges, shuffle, shuffles}
 use Rattle.sampling.specs.InnerScratch.{Shuffled, next_position, next_positions}
+use Rattle.sampling.proofs.Fields.{fields_pair}
 
 -- with the fields rs left, position j and the positions ps lead to the shuffle
 pub record Leads (t w : ℕ) (block rs : List ℕ) (j : ℕ) (ps : List ℕ) : Type 0 where
@@ -32,24 +34,24 @@ starts w {t} block {ps} l e =
     }
 
 -- at position 0 the shuffle is done
-pub ends : {t n w j : ℕ} {block rs ps : List ℕ} → n ≡ t → j ≡ 0 → Leads n w block rs j ps → Shuffled t w block true ps
+pub ends : {t n w j : ℕ} {block rs ps : List ℕ} → n ≡ t → j ≡ 0 → Leads n w block rs j ps → Shuffled t w block 0 ps
 unfolding exchanges enough
 ends {t} {w = w} {j = j} {block = block} {rs = rs} {ps = ps} n≡t j≡0 l =
     let done : Leads t w block rs 0 ps = rw (n≡t, j≡0) at l in
     record {
-      suffices = sym (leb-zero (length (partners 0 rs))) ∙ done.suffices;
+      answer = sym (holds short_draw (shuffles t block) [] (sym done.suffices ∙ leb-zero (length (partners 0 rs))));
       content = λ _. done.content;
     }
 
 -- with no field left for another position the block is short
-pub runs_short : {t n w j : ℕ} {block rs ps : List ℕ} → n ≡ t → 0 < j → rs ≡ [] → Leads n w block rs j ps → Shuffled t w block false ps
+pub runs_short : {t n w j : ℕ} {block rs ps : List ℕ} → n ≡ t → 0 < j → rs ≡ [] → Leads n w block rs j ps → Shuffled t w block 2 ps
 unfolding partners enough
 runs_short {j = zero} n≡t pos none l = absurd (not-suc-le-zero pos)
 runs_short {t} {w = w} {j = suc j} {block = block} {ps = ps} n≡t pos none l =
     let left : Leads t w block [] (suc j) ps = rw (n≡t, none) at l in
     record {
-      suffices = sym (leb-suc-zero j) ∙ left.suffices;
-      content = λ (t : false ≡ true). absurd (false≢true t);
+      answer = sym (fails short_draw (shuffles t block) [] (sym left.suffices ∙ leb-suc-zero j));
+      content = λ e. absurd (number_positive short_draw e);
     }
 
 -- the definitions go by j + 2 at position j + 1
@@ -87,18 +89,19 @@ unfolding partners
 suffices_step zero r rs h = absurd (not-suc-le-zero h)
 suffices_step (suc j) r rs h = rw (limit_at j) (suffices_by (ltb r (limit (j + 2))) j (r % (j + 2)) rs)
 
-pub step : {t w j r : ℕ} {block rs ps : List ℕ} → 0 < j → Leads t w block (r ∷ rs) j ps → Leads t w block rs (next_position j r) (next_positions ps j r)
+step : {t w j r : ℕ} {block rs ps : List ℕ} → 0 < j → Leads t w block (r ∷ rs) j ps → Leads t w block rs (next_position j r) (next_positions ps j r)
 step {j = j} {r = r} {rs = rs} {ps = ps} h l =
     record { content = sym (content_step j r rs ps h) ∙ l.content; suffices = sym (suffices_step j r rs h) ∙ l.suffices }
 
--- zeros everywhere and then w ones are what the shuffle starts from
-pub start_zeros : (w : ℕ) (s : List ℕ) → w ≤ length s → drop w (replicate (length s) 0 ++ drop (length s) s) ≡ replicate (length s - w) 0
-start_zeros w s h =
-    let whole : w + (length s - w) ≡ length s = omega arith in
-    let parts : ◌++◌ {A = ℕ} (replicate w 0) (replicate (length s - w) 0) ≡ replicate (length s) 0 =
-    replicate-append-replicate w (length s - w) 0 ∙ ap (λ (n : ℕ). replicate {A = ℕ} n 0) whole
+-- the field of the next two bytes
+pub step_pair : {t w j r : ℕ} {block ps : List ℕ} (rest pair later : List ℕ) → Below 256 rest → rest ≡ pair ++ later →
+    length pair ≡ 2 → r ≡ get_or pair 0 0 + 256 * get_or pair 1 0 → 0 < j → Leads t w block (fields 16 rest) j ps →
+    Leads t w block (fields 16 later) (next_position j r) (next_positions ps j r)
+step_pair rest pair later b e two q pos l =
+    let next : fields 16 rest ≡ (get_or pair 0 0 + 256 * get_or pair 1 0) ∷ fields 16 later =
+    rw e (fields_pair pair later (rw e at b) two)
     in
-    rw (drop-length s, append-nil, ← parts) (drop_at (replicate w 0) (replicate (length s - w) 0) w (length-replicate w 0))
+    rw q (step pos (rw next at l))
 
 -- positions are settled downward
 pick_le : (b : Bool) (j : ℕ) → pick b (j - 1) j ≤ j

@@ -1,15 +1,14 @@
 -- What the functions over lent scratch leave there.
 -- Assumes nothing.
-use Rattle.std.specs.Prelude.{◌≡◌, Bool, true, List, ℕ, ◌+◌, ◌-◌, ◌%◌, ◌^◌, ◌≤◌, ◌<◌, ltb, leb, length, take}
-use Rattle.outcome.specs.Answer.{pick}
-use Rattle.sampling.specs.declared.draw.Draw.{Draw}
+use Rattle.std.specs.Prelude.{◌≡◌, List, [], ◌∷◌, ℕ, ◌+◌, ◌-◌, ◌%◌, ◌≤◌, ltb, leb, length, take}
+use Rattle.outcome.specs.Answer.{◌unless◌, short_draw, first_refusal, pick}
+use Rattle.sampling.specs.declared.Draw.{Draw}
 use Rattle.sampling.specs.Sampling.{yield, sample, enough}
 use Rattle.sampling.specs.Shuffle.{limit, exchange, shuffle, shuffles}
 
--- Scratch has room for a draw and the rest of its last group, and every field with the addend is a byte.
+-- Scratch has room for a draw and the rest of its last group.
 abbrev pub Room : Draw → List ℕ → Type 0
-Room d scratch =
-    (d.count + 8 ≤ length scratch) × (0 < d.width) × (d.width ≤ 8) × (2 ^ d.width + d.added ≤ 256)
+Room d scratch = d.count + 8 ≤ length scratch
 
 -- A draw of n into scratch got some: n or more exactly where the block yields enough, and then the first n are the
 -- draw.
@@ -17,10 +16,10 @@ pub record Sampled (w m d n : ℕ) (block : List ℕ) (got : ℕ) (scratch : Lis
   pub suffices : leb n got ≡ enough n (yield w m d block)
   pub content : n ≤ got → take n scratch ≡ sample w m d n block
 
--- A shuffle in place says whether the block sufficed, and where it did the positions are the second challenge.
-pub record Shuffled (t w : ℕ) (block : List ℕ) (ok : Bool) (positions : List ℕ) : Type 0 where
-  pub suffices : ok ≡ shuffles t block
-  pub content : ok ≡ true → positions ≡ shuffle t w block
+-- A shuffle in place is short exactly where the block does not suffice; else the positions are the second challenge.
+pub record Shuffled (t w : ℕ) (block : List ℕ) (r : ℕ) (positions : List ℕ) : Type 0 where
+  pub answer : r ≡ first_refusal (short_draw unless shuffles t block ∷ [])
+  pub content : r ≡ 0 → positions ≡ shuffle t w block
 
 -- what field r makes of position j and of the positions: dropped, nothing; else an exchange and the next lower position
 abbrev pub next_position : ℕ → ℕ → ℕ

@@ -1,43 +1,25 @@
 // The second challenge: w ones and then zeros, shuffled by the 16-bit fields of a block.
-ghost use Rattle.std.specs.Prelude.{◌≡◌, ◌++◌, ◌+◌, ◌-◌, ◌*◌, ◌<◌, ◌≤◌, length, drop, get_or, replicate};
+ghost use Rattle.std.specs.Prelude.{◌≡◌, ◌++◌, ◌+◌, ◌-◌, ◌*◌, ◌<◌, ◌≤◌, length, get_or, replicate};
+ghost use Rattle.outcome.specs.Result.{number_in};
 ghost use Rattle.sampling.specs.InnerScratch.{Shuffled, next_position, next_positions};
 
-fn wide(x: u8) -> usize
-    ensures { (result ≡ x) × (result < 256) }
-{
-    x as usize
-}
-
-// x at the first n places.
-fn fill(buffer: &mut [u8], n: usize, x: u8)
-    requires { n ≤ length buffer.old }
-    ensures { buffer.new ≡ replicate n x ++ drop n buffer.old }
-{
-    let mut i = 0;
-    while i < n {
-        buffer[i] = x;
-        i += 1;
-    }
-}
+use outcome::Refusal;
 
 // w ones, then zeros.
 fn start(positions: &mut [u8], w: usize)
     requires { w ≤ length positions.old }
     ensures { positions.new ≡ replicate w 1 ++ replicate (length positions.old - w) 0 }
 {
-    let t = positions.len();
-    fill(positions, t, 0);
-    fill(positions, w, 1);
+    positions.fill(0);
+    positions[..w].fill(1);
 }
 
 // The field of two bytes, the low one first.
-fn field(block: &[u8], at: usize) -> usize
-    requires { at + 1 < length block.now }
-    ensures { result ≡ get_or block.now at 0 + 256 * get_or block.now (at + 1) 0 }
+fn field(pair: &[u8]) -> usize
+    requires { length pair.now ≡ 2 }
+    ensures { result ≡ get_or pair.now 0 0 + 256 * get_or pair.now 1 0 }
 {
-    let low = block[at];
-    let high = block[at + 1];
-    wide(low) + 256 * wide(high)
+    usize::from(u16::from_le_bytes([pair[0], pair[1]]))
 }
 
 // Field r at position j: past the limit it is dropped; else the position and its partner are exchanged. Returns the
@@ -49,31 +31,28 @@ fn settle(positions: &mut [u8], j: usize, r: usize) -> usize
 {
     let m = j + 1;
     if r < 65536 / m * m {
-        let i = r % m;
-        let a = positions[i];
-        let b = positions[j];
-        positions[j] = a;
-        positions[i] = b;
+        positions.swap(j, r % m);
         return j - 1;
     }
     j
 }
 
-// The second challenge into `positions`; false where the block is short.
-pub fn shuffle(positions: &mut [u8], block: &[u8], w: usize) -> bool
+// The second challenge into `positions`.
+pub fn shuffle(positions: &mut [u8], block: &[u8], w: usize) -> Result<(), Refusal>
     requires { (w ≤ length positions.old) × (0 < length positions.old) }
-    ensures { Shuffled (length positions.old) w block.now result positions.new }
+    ensures { Shuffled (length positions.old) w block.now (number_in result) positions.new }
 {
     start(positions, w);
     let mut j = positions.len() - 1;
-    let mut at = 0;
-    while 0 < j {
-        if block.len() - at < 2 {
-            return false;
+    for pair in block.chunks_exact(2) {
+        if j == 0 {
+            break;
         }
-        let r = field(block, at);
-        at += 2;
-        j = settle(positions, j, r);
+        j = settle(positions, j, field(pair));
     }
-    true
+    if j == 0 {
+        Ok(())
+    } else {
+        Err(Refusal::ShortDraw)
+    }
 }

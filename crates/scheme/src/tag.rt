@@ -1,4 +1,5 @@
-// The tag byte with which each hashed string begins, by what the string is (specs/Strings).
+// The tag byte with which each hashed string begins, by what the string is (specs/Strings). Plain bytes and no enum:
+// they are hashed, and no code chooses by them.
 pub const COMMITMENT_0: u8 = 0;
 
 pub const COMMITMENT_1: u8 = 1;

@@ -7,16 +7,16 @@ use native.Mathlib.Nat.{eq-or-lt_of_le, mod-lt, mod-add-mod, mod-eq_of_lt, mod_s
 use native.Mathlib.Omega.{arith}
 use lib.ListN.{length, get_or, set, take, drop, replicate, length-append, length-drop, length-replicate, take-append-drop}
 use lib.Pow.{pow_pos}
-use lib.Bits.{bit_xor, xor_block}
+use lib.Bits.{bit_xor, xor_assoc, xor_block}
 use lib.Seq.{take_all, set-set, get_or-set_same, length-take-le}
 use borrow.Author.Tests.{eq-eqb, ne_eqb}
+use Rattle.std.proofs.lemmas.List.Edits.{length-between}
 use Rattle.keccak.specs.Keccak.{keccak_f}
 use Rattle.keccak.proofs.Laws.{length_keccak_f}
-use Rattle.shake.specs.declared.Sponge.{Sponge}
+use Rattle.shake.specs.InnerFold.{Sponge}
 use Rattle.shake.specs.Shake.{lanes_of, xor_lanes, absorb_blocks, padding, padded, absorbed}
 use Rattle.shake.specs.InnerFold.{sponge, xor_byte, xor_bytes, turned, absorb_byte, absorb_bytes, fresh, Bytes}
-use Rattle.shake.proofs.Xor.{xor_assoc}
-use Rattle.shake.proofs.Lanes.{xor_bytes_append, xor_bytes_zeros, bytes_append, cut, length_cut, length_xor_byte, xor_bytes_block, bytes_take, bytes_drop}
+use Rattle.shake.proofs.Lanes.{xor_bytes_append, xor_bytes_zeros, bytes_append, cut, length_xor_byte, xor_bytes_block, bytes_take, bytes_drop}
 
 -- absorbing in parts is absorbing the whole
 pub absorb_bytes_append : (s : Sponge) (p q : List ℕ) → absorb_bytes s (p ++ q) ≡ absorb_bytes (absorb_bytes s p) q
@@ -58,7 +58,7 @@ absorb_bytes_block s at rate p i e room end h =
     let part = take (e - i) (drop i p) in
     ap (absorb_bytes (sponge s at rate)) (cut p i e (omega arith))
     ∙ absorb_bytes_append (sponge s at rate) part (drop e p)
-    ∙ ap (λ (r : Sponge). absorb_bytes r (drop e p)) (absorb_bytes_full s at rate part (omega (arith, length_cut p i e h)) room)
+    ∙ ap (λ (r : Sponge). absorb_bytes r (drop e p)) (absorb_bytes_full s at rate part (omega (arith, length-between p i e h)) room)
 
 pub absorb_bytes_last : (s : List ℕ) (at rate : ℕ) (p : List ℕ) (i : ℕ) → length p - i < rate - at
     → absorb_bytes (sponge s at rate) (drop i p) ≡ sponge (xor_bytes s at (take (length p - i) (drop i p))) (at + (length p - i)) rate

@@ -1,18 +1,21 @@
 -- What a sponge holds, from the fold: the steps of `absorb` and `squeeze`. Assumes nothing.
 use mathlib.Core.Path.{◌≡◌, refl, ◌∙◌, sym, ap}
 use mathlib.Core.Bool.{Bool, true, false}
-use mathlib.Core.List.{List, [], ◌∷◌}
-use Prim.Native.Nat.{ℕ, zero, suc, ◌+◌, ◌-◌, ◌<◌}
+use mathlib.Core.List.{List, [], ◌∷◌, ◌++◌}
+use Prim.Native.Nat.{ℕ, zero, suc, ◌+◌, ◌-◌, ◌%◌, ◌<◌}
+use native.Mathlib.Nat.{mod-lt}
 use native.Mathlib.Omega.{arith}
 use lib.Dec.{eqb}
-use lib.ListN.{replicate}
+use lib.ListN.{length, get_or, take}
+use Rattle.std.proofs.lemmas.List.{take_more}
+use denote.Ref.{Bor}
 use Rattle.outcome.specs.Answer.{pick}
 use Rattle.keccak.specs.Keccak.{keccak_f}
-use Rattle.shake.specs.declared.Sponge.{Sponge}
-use Rattle.shake.specs.Shake.{squeezed, shake}
-use Rattle.shake.specs.InnerFold.{sponge, xor_byte, turned, absorb_byte, absorb_bytes, fresh, Bytes, Rate, Ready, Holds, Absorbs, Squeezes}
+use Rattle.shake.specs.InnerFold.{Sponge}
+use Rattle.shake.specs.Shake.{squeezed, shake, behind}
+use Rattle.shake.specs.InnerFold.{sponge, xor_byte, turned, absorb_byte, absorb_bytes, fresh, Bytes, Ready, Holds, Absorbs, Squeezes}
 use Rattle.shake.proofs.Lanes.{bytes_append}
-use Rattle.shake.proofs.Blocks.{absorb_bytes_append, turned_room, absorbed_fold}
+use Rattle.shake.proofs.Blocks.{absorb_bytes_append, turned_at, absorbed_fold}
 
 pub absorbs : (s s' : Sponge) (part : List ℕ) → Ready s' → Bytes part → s' ≡ absorb_bytes s part → Absorbs s part s'
 absorbs s s' part r w e =
@@ -25,20 +28,9 @@ absorbs s s' part r w e =
       };
     }
 
-pub bytes_one : (b : ℕ) → b < 256 → Bytes (b ∷ [])
+bytes_one : (b : ℕ) → b < 256 → Bytes (b ∷ [])
 bytes_one b h zero = h
 bytes_one b h (suc i) = omega arith
-
--- a fresh state that took one byte in
-pub holds_one : (rate b : ℕ) (s : List ℕ) → Rate rate → b < 256 → s ≡ xor_byte (replicate 25 0) 0 b → Holds (sponge s 1 rate) rate (b ∷ [])
-unfolding absorb_bytes absorb_byte fresh
-holds_one rate b s r h e =
-    let room : 1 < rate = omega (arith, r.some, r.whole) in
-    record {
-      ready = record { rated = r; room = room };
-      bytes = bytes_one b h;
-      state = ap (λ (x : List ℕ). sponge x 1 rate) e ∙ sym (turned_room (xor_byte (replicate 25 0) 0 b) 1 rate room);
-    }
 
 turned_rate : (s : List ℕ) (at rate : ℕ) → (turned s at rate).rate ≡ rate
 unfolding turned
@@ -47,6 +39,20 @@ turned_rate s at rate = either (eqb at rate)
     either : (b : Bool) → (pick b (sponge (keccak_f s) 0 rate) (sponge s at rate)).rate ≡ rate
     either true = refl
     either false = refl
+
+-- a byte at the sponge's place, which may fill the block
+pub absorbs_byte : (s s' : Sponge) (b : ℕ) → Ready s → b < 256 → s' ≡ turned (xor_byte s.lanes s.at b) (s.at + 1) s.rate
+    → Ready s' × Absorbs s (b ∷ []) s'
+unfolding absorb_bytes absorb_byte
+absorbs_byte s s' b r h e =
+    let taken = xor_byte s.lanes s.at b in
+    let same : s'.rate ≡ s.rate = ap (λ (x : Sponge). x.rate) e ∙ turned_rate taken (s.at + 1) s.rate in
+    let place : s'.at ≡ (s.at + 1) % s.rate = ap (λ (x : Sponge). x.at) e ∙ turned_at taken (s.at + 1) s.rate (omega (arith, r.room)) in
+    let ready : Ready s' = record {
+      rated = rw same r.rated;
+      room = rw (same, place) (mod-lt (s.at + 1) {m = s.rate} r.rated.some);
+    } in
+    (ready, absorbs s s' (b ∷ []) ready (bytes_one b h) e)
 
 absorb_bytes_rate : (s : Sponge) (p : List ℕ) → (absorb_bytes s p).rate ≡ s.rate
 unfolding absorb_bytes absorb_byte
@@ -67,3 +73,12 @@ squeezes s d out e =
           ∙ ap (λ (r : ℕ). squeezed r d (keccak_f (xor_byte (xor_byte f.lanes f.at 0x1F) (r - 1) 0x80))) same
           ∙ ap (squeezed rate d) (absorbed_fold rate m (omega arith) (omega arith) h.bytes);
     }
+
+-- one more part behind the others
+behind_push : (m : List ℕ) (parts : List (Bor (List ℕ))) (part : Bor (List ℕ)) → behind m (parts ++ part ∷ []) ≡ behind m parts ++ part.now
+behind_push m [] part = refl
+behind_push m (p ∷ parts) part = behind_push (m ++ p.now) parts part
+
+pub holds_more : {s : Sponge} {rate i : ℕ} (m : List ℕ) (parts : List (Bor (List ℕ))) (part : Bor (List ℕ)) → i < length parts
+    → Holds s rate (behind m (take i parts) ++ (get_or parts i part).now) → Holds s rate (behind m (take (i + 1) parts))
+holds_more {s} {rate} {i} m parts part inside h = rw (take_more parts i part inside, behind_push) h

@@ -10,10 +10,10 @@ use lib.ListN.{length, get_or, set, take, drop, replicate, length-set, length-ap
 use lib.Seq.{drop-drop, drop-cons, set_out, set-set, get_or-set_same, length-take-le, set_at, get_or_at, append_snoc, set-get_or, get_or-drop}
 use lib.Arith.{digits_lt}
 use lib.Pow.{pow-add, pow_pos, shl_exact}
-use lib.Bits.{bit_xor, bit_or, or_shifted_r, xor_zero_r, xor_comm, xor_shifted}
+use lib.Bits.{bit_xor, bit_or, or_shifted_r, xor_zero_r, xor_assoc, xor_comm, xor_shifted}
+use Rattle.std.proofs.lemmas.List.Edits.{length-between}
 use Rattle.shake.specs.Shake.{little, lanes_of, xor_lanes}
 use Rattle.shake.specs.InnerFold.{xor_byte, xor_bytes, Bytes}
-use Rattle.shake.proofs.Xor.{xor_assoc}
 
 pub length_xor_byte : (s : List ℕ) (i b : ℕ) → length (xor_byte s i b) ≡ length s
 unfolding xor_byte
@@ -142,17 +142,33 @@ cut p i e h =
     sym (take-append-drop (e - i) (drop i p))
     ∙ ap (λ (r : List ℕ). take (e - i) (drop i p) ++ r) (drop-drop (e - i) i p ∙ ap (λ (n : ℕ). drop n p) end)
 
-pub length_cut : (p : List ℕ) (i e : ℕ) → e ≤ length p → length (take (e - i) (drop i p)) ≡ e - i
-length_cut p i e h = length-take-le (e - i) (drop i p) (omega (arith, length-drop i p))
-
 pub xor_bytes_cut : (s : List ℕ) (at : ℕ) (p : List ℕ) (i e : ℕ) → i ≤ e → e ≤ length p
     → xor_bytes s (at + i) (drop i p) ≡ xor_bytes (xor_bytes s (at + i) (take (e - i) (drop i p))) (at + e) (drop e p)
 xor_bytes_cut s at p i e h g =
     let part = take (e - i) (drop i p) in
-    let place : at + i + length part ≡ at + e = omega (arith, length_cut p i e g) in
+    let place : at + i + length part ≡ at + e = omega (arith, length-between p i e g) in
     ap (xor_bytes s (at + i)) (cut p i e h)
     ∙ xor_bytes_append s (at + i) part (drop e p)
     ∙ ap (λ (n : ℕ). xor_bytes (xor_bytes s (at + i) part) n (drop e p)) place
+
+-- a whole lane of a string, at a place that starts a lane
+pub xor_bytes_whole : (s : List ℕ) (at k v : ℕ) (p : List ℕ) → at % 8 ≡ 0 → 8 * k + 8 ≤ length p → Bytes p
+    → v ≡ little (take 8 (drop (8 * k) p))
+    → xor_bytes (set s (at / 8 + k) (bit_xor (get_or s (at / 8 + k) 0) v)) (at + 8 * (k + 1)) (drop (8 * (k + 1)) p)
+    ≡ xor_bytes s (at + 8 * k) (drop (8 * k) p)
+xor_bytes_whole s at k v p start room w e =
+    let i = 8 * k in
+    let next : 8 * (k + 1) ≡ i + 8 = omega arith in
+    let eight : i + 8 - i ≡ 8 = omega arith in
+    let lane : (at + i) / 8 ≡ at / 8 + k = omega arith in
+    let first : (at + i) % 8 ≡ 0 = omega arith in
+    let one : little (take 8 (drop i p)) * 1 ≡ v = omega arith in
+    let chunk = take 8 (drop i p) in
+    let long : length chunk ≡ 8 = length-take-le 8 (drop i p) (omega (arith, length-drop i p)) in
+    let put = xor_bytes_lane s (at + i) chunk (omega arith) (bytes_take 8 (drop i p) (bytes_drop i p w)) in
+    rw next
+    (ap (λ (r : List ℕ). xor_bytes r (at + (i + 8)) (drop (i + 8) p)) (sym (simp (lane, first, one) at put))
+    ∙ sym (rw eight at (xor_bytes_cut s at p i (i + 8) (omega arith) room)))
 
 -- where a string goes on after its first eight bytes, if it does
 xor_bytes_next : (s : List ℕ) (k : ℕ) (p : List ℕ) → xor_bytes s (8 * k + length (take 8 p)) (drop 8 p) ≡ xor_bytes s (8 * (k + 1)) (drop 8 p)

@@ -1,5 +1,5 @@
-pub mod Xor
 pub mod Lanes
 pub mod Blocks
 pub mod Output
 pub mod Holds
+pub mod Words

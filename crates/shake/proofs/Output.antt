@@ -4,11 +4,12 @@ use mathlib.Core.Logic.{⊎_elim}
 use mathlib.Core.List.{List, [], ◌∷◌, ◌++◌, append_assoc}
 use Prim.Native.Nat.{ℕ, zero, suc, ◌+◌, ◌-◌, ◌*◌, ◌/◌, ◌%◌, ◌<◌, ◌≤◌}
 use native.Mathlib.Nat.{eq-zero-or-pos, le_refl, zero-add, mul-zero}
-use native.Mathlib.Numerals.{add-one}
 use native.Mathlib.Omega.{arith}
-use lib.ListN.{length, set, get_or, take, drop, replicate, length-append, length-take, length-drop}
-use lib.Seq.{take-suc-set, append_snoc, length-take-le, take-take, take-append-le, take-append-add, take_at}
-use borrow.Rule.Slice.PartMut.{mid_of, post_of, put_mid}
+use lib.ListN.{length, get_or, take, drop, replicate, length-append, length-take}
+use lib.Seq.{length-take-le, take-take, take-append-le, take-append-add}
+use borrow.Rule.Slice.PartMut.{mid_of, put_mid}
+use Rattle.std.proofs.lemmas.List.Edits.{length-between}
+use Rattle.std.proofs.lemmas.Slice.{take-put_mid}
 use Rattle.keccak.specs.Keccak.{keccak_f}
 use Rattle.keccak.proofs.Laws.{length_keccak_f}
 use Rattle.shake.specs.Shake.{low_bytes, bytes_of, absorb_blocks, squeeze_blocks, squeezed, absorbed, shake, shake128, lanes_of, xor_lanes, padded}
@@ -51,39 +52,19 @@ take_bytes_of (x ∷ s) (suc k) j h g =
     ∙ sym (append_assoc (low_bytes 8 x) (take (8 * k) (bytes_of s)) (low_bytes j (get_or s k 0)))
     ∙ ap (λ (r : List ℕ). r ++ low_bytes j (get_or s k 0)) (sym (ap (λ (n : ℕ). take n (low_bytes 8 x ++ bytes_of s)) start ∙ past (8 * k)))
 
--- byte i of a number is written
-pub low_bytes_next : (out : List ℕ) (n i rest : ℕ) → i < n → length out ≡ n
-    → take (i + 1) (set out i (rest % 256)) ++ low_bytes (n - (i + 1)) (rest / 256) ≡ take i out ++ low_bytes (n - i) rest
-unfolding low_bytes
-low_bytes_next out n i rest h e =
-    let left : n - i ≡ suc (n - (i + 1)) = omega arith in
-    let inside : i < length out = omega arith in
-    rw (left, add-one i, take-suc-set out i (rest % 256) inside) (append_snoc (take i out) (rest % 256) (low_bytes (n - suc i) (rest / 256)))
-
--- a part of the buffer is written after what stands before it
-pub take_put : (i e : ℕ) (out ys : List ℕ) → i ≤ e → e ≤ length out → length ys ≡ e - i
-    → take e (put_mid i (e - i) out ys) ≡ take i out ++ ys
-take_put i e out ys h g l =
-    let front : length (take i out ++ ys) ≡ e = length-append (take i out) ys ∙ omega (arith, length-take-le i out (omega arith)) in
-    ap (take e) (sym (append_assoc (take i out) ys (post_of i (e - i) out)))
-    ∙ take_at (take i out ++ ys) (post_of i (e - i) out) e front
-
-pub length_mid : (i e : ℕ) (out : List ℕ) → i ≤ e → e ≤ length out → length (mid_of i (e - i) out) ≡ e - i
-length_mid i e out h g = length-take-le (e - i) (drop i out) (omega (arith, length-drop i out))
-
 -- the bytes of lane k, up to place e of the state
-pub put_bytes : (s : List ℕ) (k i e : ℕ) (out ys : List ℕ) → k < length s → i ≡ 8 * k → i ≤ e → e ≤ i + 8 → e ≤ length out
-    → take i out ≡ take i (bytes_of s) → ys ≡ low_bytes (length (mid_of i (e - i) out)) (get_or s k 0)
-    → take e (put_mid i (e - i) out ys) ≡ take e (bytes_of s)
-put_bytes s k i e out ys inside start h g room done lane =
-    let size = length_mid i e out h room in
-    let written : ys ≡ low_bytes (e - i) (get_or s k 0) = lane ∙ ap (λ (n : ℕ). low_bytes n (get_or s k 0)) size in
-    let place : 8 * k + (e - i) ≡ e = omega arith in
-    take_put i e out ys h room (ap length written ∙ length_low_bytes (e - i) (get_or s k 0))
-    ∙ ap (λ (r : List ℕ). r ++ ys) (done ∙ ap (λ (n : ℕ). take n (bytes_of s)) start)
+pub put_bytes : (s : List ℕ) (k e : ℕ) (out ys : List ℕ) → k < length s → 8 * k ≤ e → e ≤ 8 * k + 8 → e ≤ length out
+    → take (8 * k) out ≡ take (8 * k) (bytes_of s) → ys ≡ low_bytes (length (mid_of (8 * k) (e - 8 * k) out)) (get_or s k 0)
+    → take e (put_mid (8 * k) (e - 8 * k) out ys) ≡ take e (bytes_of s)
+put_bytes s k e out ys inside h g room done lane =
+    let n = e - 8 * k in
+    let written : ys ≡ low_bytes n (get_or s k 0) = lane ∙ ap (λ (j : ℕ). low_bytes j (get_or s k 0)) (length-between out (8 * k) e room) in
+    let place : 8 * k + n ≡ e = omega arith in
+    take-put_mid (8 * k) n out ys e (omega (arith, ap length written, length_low_bytes n (get_or s k 0))) (omega arith)
+    ∙ ap (λ (r : List ℕ). r ++ ys) done
     ∙ ap (λ (r : List ℕ). take (8 * k) (bytes_of s) ++ r) written
-    ∙ sym (take_bytes_of s k (e - i) inside (omega arith))
-    ∙ ap (λ (n : ℕ). take n (bytes_of s)) place
+    ∙ sym (take_bytes_of s k n inside (omega arith))
+    ∙ ap (λ (j : ℕ). take j (bytes_of s)) place
 
 bytes_low_bytes : (n x : ℕ) → Bytes (low_bytes n x)
 unfolding low_bytes
@@ -187,12 +168,12 @@ module _ (rate : ℕ) (some : 0 < rate) where
       → ys ≡ take (length (mid_of i (i + rate - i) out)) (bytes_of s)
       → take (i + rate) (put_mid i (i + rate - i) out ys) ++ squeezed rate (n - (i + rate)) (keccak_f s) ≡ take i out ++ squeezed rate (n - i) s
   put_block i n s out ys e fits h g block =
-      let size : length (mid_of i (i + rate - i) out) ≡ rate = length_mid i (i + rate) out (omega arith) (omega arith) ∙ omega arith in
+      let size : length (mid_of i (i + rate - i) out) ≡ rate = length-between out i (i + rate) (omega arith) ∙ omega arith in
       let written : ys ≡ take rate (bytes_of s) = block ∙ ap (λ (j : ℕ). take j (bytes_of s)) size in
-      let long : length ys ≡ i + rate - i = ap length written ∙ length-take-le rate (bytes_of s) (omega (arith, length_bytes_of s)) ∙ omega arith in
+      let long : length ys ≡ rate = ap length written ∙ length-take-le rate (bytes_of s) (omega (arith, length_bytes_of s)) in
       let left = n - (i + rate) in
       let sum : rate + left ≡ n - i = omega arith in
-      ap (λ (r : List ℕ). r ++ squeezed rate left (keccak_f s)) (take_put i (i + rate) out ys (omega arith) (omega arith) long)
+      ap (λ (r : List ℕ). r ++ squeezed rate left (keccak_f s)) (take-put_mid i (i + rate - i) out ys (i + rate) (omega arith) (omega arith))
       ∙ append_assoc (take i out) ys (squeezed rate left (keccak_f s))
       ∙ ap (λ (r : List ℕ). take i out ++ r)
       (ap (λ (r : List ℕ). r ++ squeezed rate left (keccak_f s)) written ∙ sym (squeezed_more left s e fits) ∙ ap (λ (j : ℕ). squeezed rate j s) sum)
@@ -201,9 +182,9 @@ module _ (rate : ℕ) (some : 0 < rate) where
       → ys ≡ take (length (mid_of i (n - i) out)) (bytes_of s)
       → take n (put_mid i (n - i) out ys) ≡ take i out ++ squeezed rate (n - i) s
   put_last i n s out ys e fits h last g block =
-      let written : ys ≡ take (n - i) (bytes_of s) = block ∙ ap (λ (j : ℕ). take j (bytes_of s)) (length_mid i n out h g) in
+      let written : ys ≡ take (n - i) (bytes_of s) = block ∙ ap (λ (j : ℕ). take j (bytes_of s)) (length-between out i n g) in
       let long : length ys ≡ n - i = ap length written ∙ length-take-le (n - i) (bytes_of s) (omega (arith, length_bytes_of s)) in
-      take_put i n out ys h g long
+      take-put_mid i (n - i) out ys n (omega arith) (omega arith)
       ∙ ap (λ (r : List ℕ). take i out ++ r) (written ∙ sym (squeezed_last (n - i) s e fits last))
 
 -- ---- the laws of SHAKE's output

@@ -4,7 +4,12 @@ use Rattle.std.specs.Int.Bits.{bit_xor}
 use Rattle.outcome.specs.Answer.{pick}
 use Rattle.keccak.specs.Keccak.{keccak_f}
 use Rattle.shake.specs.Shake.{shake}
-use Rattle.shake.specs.declared.Sponge.{Sponge}
+
+-- the state, the place of the next byte in the block, and the size of a block in bytes
+pub record Sponge : Type 0 where
+  pub lanes : List ℕ
+  pub at : ℕ
+  pub rate : ℕ
 
 abbrev pub sponge : List ℕ → ℕ → ℕ → Sponge
 sponge s at rate = record { lanes = s; at = at; rate = rate }

@@ -2,6 +2,7 @@
 -- A rate is a number of bytes, above 0 and below 200; this is the standard's function for each of them, 168 for
 -- SHAKE128 and 136 for SHAKE256. Assumes nothing.
 use Rattle.std.specs.Prelude.{◌≡◌, List, [], ◌∷◌, ◌++◌, ℕ, zero, suc, ◌+◌, ◌-◌, ◌*◌, ◌/◌, ◌%◌, length, take, drop, replicate}
+use Rattle.std.specs.Borrow.{Bor}
 use Rattle.std.specs.Int.Bits.{bit_xor}
 use Rattle.keccak.specs.Keccak.{keccak_f}
 
@@ -60,6 +61,11 @@ squeezed rate d s = take d (squeeze_blocks rate d s)
 -- d bytes out of the string m (algorithm 8, with the padding of SHAKE)
 unfoldable pub shake : ℕ → List ℕ → ℕ → List ℕ
 shake rate m d = squeezed rate d (absorbed rate m)
+
+-- parts behind a string, one after the other
+abbrev pub behind : List ℕ → List (Bor (List ℕ)) → List ℕ
+behind m [] = m
+behind m (part ∷ parts) = behind (m ++ part.now) parts
 
 -- section 6.2: a capacity of 256 bits leaves 168 bytes, one of 512 bits leaves 136
 unfoldable pub shake128 : List ℕ → ℕ → List ℕ

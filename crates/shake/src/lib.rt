@@ -3,29 +3,13 @@
 
 ghost use Rattle.std.specs.Prelude.{◌≡◌, [], ◌∷◌, ◌++◌, ◌+◌, ◌-◌, ◌*◌, ◌%◌, ◌<◌, ◌≤◌, length, take};
 ghost use Rattle.keccak.specs.Keccak.{keccak_f};
-ghost use Rattle.shake.specs.Shake.{little, low_bytes, bytes_of, squeezed, shake, Hashes128, Hashes256};
+ghost use Rattle.shake.specs.Shake.{little, low_bytes, bytes_of, squeezed, shake, behind, Hashes128, Hashes256};
 ghost use Rattle.shake.specs.InnerFold.{sponge as spongeOf, xor_byte, xor_bytes, turned, absorb_bytes};
 ghost use Rattle.shake.specs.InnerFold.{Rate, Ready, Holds, Absorbs, Squeezes};
 
-// The state, the place of the next byte in the block, and the size of a block in bytes.
-#[derive(Drop)]
-pub struct Sponge {
-    pub lanes: [u64; 25],
-    pub at: usize,
-    pub rate: usize,
-}
+pub mod sponge;
 
-// A sponge that holds the empty string.
-pub fn new(rate: usize) -> Sponge
-    requires { Rate rate }
-    ensures { Holds result rate [] }
-{
-    Sponge {
-        lanes: [0u64; 25],
-        at: 0,
-        rate: rate,
-    }
-}
+pub use sponge::Sponge;
 
 // A byte at place i of the state.
 fn xor_byte(lanes: &mut [u64; 25], i: usize, b: u8)
@@ -53,11 +37,9 @@ fn gather(bytes: &[u8]) -> u64
     requires { length bytes.now ≤ 8 }
     ensures { result ≡ little bytes.now }
 {
-    let mut x: u64 = 0;
-    let mut i = 0;
-    while i < bytes.len() {
-        x = x | ((bytes[i] as u64) << (8 * i));
-        i += 1;
+    let mut x = 0;
+    for (i, &b) in bytes.iter().enumerate() {
+        x |= (b as u64) << (8 * i);
     }
     x
 }
@@ -78,14 +60,12 @@ fn xor_lanes(lanes: &mut [u64; 25], at: usize, part: &[u8])
     requires { (at % 8 ≡ 0) × (at + length part.now < 200) }
     ensures { lanes.new ≡ xor_bytes lanes.old at part.now }
 {
-    let n = part.len();
-    let mut i = 0;
-    while 8 <= n - i {
-        let end = i + 8;
-        xor_lane(lanes, at + i, &part[i..end]);
-        i = end;
+    let first = at / 8;
+    let (whole, rest) = part.as_chunks::<8>();
+    for (k, &bytes) in whole.iter().enumerate() {
+        lanes[first + k] ^= u64::from_le_bytes(bytes);
     }
-    xor_lane(lanes, at + i, &part[i..n]);
+    xor_lane(lanes, at + 8 * whole.len(), rest);
 }
 
 // Bytes up to the next lane, then the lanes from there.
@@ -93,17 +73,17 @@ fn xor_part(lanes: &mut [u64; 25], at: usize, part: &[u8])
     requires { at + length part.now < 200 }
     ensures { lanes.new ≡ xor_bytes lanes.old at part.now }
 {
-    let n = part.len();
     let gap = (8 - at % 8) % 8;
-    if n <= gap {
+    if part.len() <= gap {
         xor_lane(lanes, at, part);
         return;
     }
-    xor_lane(lanes, at, &part[0..gap]);
-    xor_lanes(lanes, at + gap, &part[gap..n]);
+    xor_lane(lanes, at, &part[..gap]);
+    xor_lanes(lanes, at + gap, &part[gap..]);
 }
 
 // Fills block after block and permutes each; the last one keeps room. Returns the place of the next byte.
+// A `while`, since the first block takes fewer bytes than the others: it has some already.
 fn absorb_part(lanes: &mut [u64; 25], at: usize, rate: usize, part: &[u8]) -> usize
     requires { (at < rate) × (rate < 200) }
     ensures { (spongeOf lanes.new result rate ≡
@@ -119,39 +99,8 @@ fn absorb_part(lanes: &mut [u64; 25], at: usize, rate: usize, part: &[u8]) -> us
         next = 0;
         i = end;
     }
-    xor_part(lanes, next, &part[i..n]);
+    xor_part(lanes, next, &part[i..]);
     next + (n - i)
-}
-
-// The part goes in after what the sponge holds.
-pub fn absorb(sponge: Sponge, part: &[u8]) -> Sponge
-    requires { Ready sponge }
-    ensures { Absorbs sponge part.now result }
-{
-    let rate = sponge.rate;
-    let mut lanes = sponge.lanes;
-    let at = absorb_part(&mut lanes, sponge.at, rate, part);
-    Sponge {
-        lanes: lanes,
-        at: at,
-        rate: rate,
-    }
-}
-
-// One byte, as the tag that a string begins with.
-pub fn absorb_byte(sponge: Sponge, b: u8) -> Sponge
-    requires { Ready sponge }
-    ensures { Absorbs sponge (b ∷ []) result }
-{
-    let rate = sponge.rate;
-    let mut lanes = sponge.lanes;
-    xor_byte(&mut lanes, sponge.at, b);
-    let at = turn(&mut lanes, sponge.at + 1, rate);
-    Sponge {
-        lanes: lanes,
-        at: at,
-        rate: rate,
-    }
 }
 
 // The suffix and the padding go in as two bytes, which fall on one place where one byte is left; the block is permuted.
@@ -166,35 +115,30 @@ fn finish(lanes: &mut [u64; 25], at: usize, rate: usize)
 
 // The low bytes of a lane, as many as the slice has.
 fn write_bytes(x: u64, out: &mut [u8])
+    requires { length out.old ≤ 8 }
     ensures { out.new ≡ low_bytes (length out.old) x }
 {
-    let mut rest = x;
-    let mut i = 0;
-    while i < out.len() {
-        out[i] = (rest % 256) as u8;
-        rest = rest / 256;
-        i += 1;
-    }
+    let n = out.len();
+    let bytes = x.to_le_bytes();
+    out.copy_from_slice(&bytes[..n]);
 }
 
-// The state's first bytes: whole lanes, then what is left.
+// The state's first bytes: whole lanes, then what is left. By index, since a proof knows nothing of what was written
+// through `as_chunks_mut`.
 fn write_block(lanes: &[u64; 25], out: &mut [u8])
     requires { (length lanes.now ≡ 25) × (length out.old < 200) }
     ensures { out.new ≡ take (length out.old) (bytes_of lanes.now) }
 {
-    let n = out.len();
-    let mut k = 0;
-    let mut i = 0;
-    while 8 <= n - i {
-        let end = i + 8;
-        write_bytes(lanes[k], &mut out[i..end]);
-        i = end;
-        k += 1;
+    let whole = out.len() / 8;
+    for k in 0..whole {
+        let at = 8 * k;
+        write_bytes(lanes[k], &mut out[at..at + 8]);
     }
-    write_bytes(lanes[k], &mut out[i..n]);
+    write_bytes(lanes[whole], &mut out[8 * whole..]);
 }
 
 // Block after block comes out; a full one is permuted for the next. The last is not: nothing comes after it.
+// A `while`, since the last block may be a whole one, and a proof knows nothing of what was written through `chunks_mut`.
 fn squeeze_blocks(lanes: &mut [u64; 25], rate: usize, out: &mut [u8])
     requires { (length lanes.old ≡ 25) × (0 < rate) × (rate < 200) }
     ensures { out.new ≡ squeezed rate (length out.old) lanes.old }
@@ -204,31 +148,20 @@ fn squeeze_blocks(lanes: &mut [u64; 25], rate: usize, out: &mut [u8])
     while rate < n - i {
         let end = i + rate;
         write_block(lanes, &mut out[i..end]);
-        turn(lanes, rate, rate);
+        keccak::permute(lanes);
         i = end;
     }
-    write_block(lanes, &mut out[i..n]);
+    write_block(lanes, &mut out[i..]);
 }
 
-// Pads, and fills the buffer with what comes out of the string that the sponge holds.
-pub fn squeeze(sponge: Sponge, out: &mut [u8])
-    requires { Ready sponge }
-    ensures { Squeezes sponge (length out.old) out.new }
-{
-    let rate = sponge.rate;
-    let mut lanes = sponge.lanes;
-    finish(&mut lanes, sponge.at, rate);
-    squeeze_blocks(&mut lanes, rate, out);
-}
-
-// A whole string of any length, into a buffer of any length.
+// A whole string of any length, into a buffer of any length. Over the state itself: the methods of a sponge take 3 % more
+// time for a short string.
 fn fill(rate: usize, input: &[u8], out: &mut [u8])
     requires { Rate rate }
     ensures { out.new ≡ shake rate input.now (length out.old) }
 {
-    let n = input.len();
     let mut lanes = [0u64; 25];
-    let at = absorb_part(&mut lanes, 0, rate, &input[0..n]);
+    let at = absorb_part(&mut lanes, 0, rate, input);
     finish(&mut lanes, at, rate);
     squeeze_blocks(&mut lanes, rate, out);
 }
@@ -247,18 +180,15 @@ pub fn shake256(input: &[u8], out: &mut [u8])
     fill(136, input, out);
 }
 
-// A tag byte and four parts in one call, which spares the copies of a sponge by value. A part may be empty.
-pub fn hash(rate: usize, tag: u8, a: &[u8], b: &[u8], c: &[u8], d: &[u8], out: &mut [u8])
+// A tag byte and the parts behind it in one call.
+pub fn hash(rate: usize, tag: u8, parts: &[&[u8]], out: &mut [u8])
     requires { Rate rate }
-    ensures { out.new ≡ shake rate (tag ∷ a.now ++ b.now ++ c.now ++ d.now)
-        (length out.old) }
+    ensures { out.new ≡ shake rate (behind (tag ∷ []) parts.now) (length out.old) }
 {
-    let mut lanes = [0u64; 25];
-    xor_byte(&mut lanes, 0, tag);
-    let at_a = absorb_part(&mut lanes, 1, rate, a);
-    let at_b = absorb_part(&mut lanes, at_a, rate, b);
-    let at_c = absorb_part(&mut lanes, at_b, rate, c);
-    let at_d = absorb_part(&mut lanes, at_c, rate, d);
-    finish(&mut lanes, at_d, rate);
-    squeeze_blocks(&mut lanes, rate, out);
+    let mut sponge = Sponge::new(rate);
+    sponge.absorb_byte(tag);
+    for &part in parts {
+        sponge.absorb(part);
+    }
+    sponge.squeeze(out);
 }

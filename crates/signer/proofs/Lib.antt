@@ -1,6 +1,7 @@
-pub mod Written
+pub mod Ranges
 pub mod Loops
+pub mod Digests
+pub mod Made
 pub mod Sponge
-pub mod Rounds
 pub mod Signed
 pub mod Answered

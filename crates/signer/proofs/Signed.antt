@@ -1,6 +1,5 @@
 -- From the states of the rounds in lent scratch to the definitions of the signature. Assumes nothing.
 use mathlib.Core.Path.{◌≡◌, refl, ◌∙◌, ap, sym, subst}
-use mathlib.Core.Bool.{true, false}
 use mathlib.Core.List.{List, [], ◌∷◌, ◌++◌, append_assoc, append-nil}
 use Prim.Native.Nat.{ℕ, zero, suc, ◌+◌, ◌*◌, ◌<◌}
 use native.Mathlib.Nat.{mul_comm, mul-suc, mul-zero}
@@ -8,16 +7,17 @@ use native.Mathlib.Omega.{arith}
 use lib.Dec.{eqb}
 use lib.ListN.{length, take, drop, get_or, length-append}
 use lib.Seq.{take_at, drop_at, take_all}
-use Rattle.outcome.specs.Answer.{Check, ◌unless◌, short_draw, first_refusal, pick}
+use Rattle.outcome.specs.declared.refusal.Refusal.{Refusal}
+use Rattle.outcome.specs.Answer.{Check, ◌unless◌, short_draw, number_of, first_refusal, pick}
 use Rattle.outcome.specs.Lists.{flat, total}
-use Rattle.outcome.proofs.Checks.{fails, holds, passed_front, refused_front}
+use Rattle.outcome.proofs.Checks.{number_positive}
+use Rattle.outcome.proofs.Answering.{stops, goes_on}
 use Rattle.outcome.proofs.Lists.{flat_ext, flat_part, length_flat, flat_passed}
 use Rattle.packing.specs.Packing.{pack}
 use Rattle.packing.specs.InnerVector.{Vector}
 use Rattle.parameters.specs.declared.Params.{Params}
 use Rattle.parameters.specs.Sound.{Sound}
 use Rattle.linear.specs.Linear.{response, transformation}
-use Rattle.linear.proofs.Kept.{kept_below}
 use Rattle.scheme.specs.Strings.{digest, response_string, all_responses_string, aggregate, joined}
 use Rattle.scheme.specs.Round.{round_draws}
 use Rattle.scheme.specs.Sign.{
@@ -33,7 +33,7 @@ use Rattle.scheme.specs.Sign.{
   signature_from,
 }
 use Rattle.scheme.specs.Sign as sign
-use Rattle.scheme.proofs.PartsStrings.{length_digest, below_mask, length_mask, length_values}
+use Rattle.scheme.proofs.PartsStrings.{length_digest, length_mask, length_values}
 use Rattle.signer.specs.InnerState.{
   state_size,
   seed_at,
@@ -52,7 +52,7 @@ use Rattle.signer.specs.InnerState.{
   Replied,
   SignedWith,
 }
-use Rattle.signer.proofs.Rounds.{below_values}
+use Rattle.signer.proofs.Ranges.{values_ranged, exponents_ranged}
 
 -- four lists in a row, taken apart again
 pub record Row (u e a b : List ℕ) (n d : ℕ) (row : List ℕ) : Type 0 where
@@ -98,7 +98,7 @@ module _ (p : Params) (sound : Sound p) (vs key : List ℕ) (seed : ℕ → List
   values j l =
       record {
         long = length_values p (seed j) salt (j + 1) (drawnⱼ j l);
-        ranged = kept_below 127 _ (below_values p (seed j) salt (j + 1));
+        ranged = values_ranged p (seed j) salt (j + 1);
       }
 
   exponents : (j : ℕ) → j < p.t → Vector 7 p.n (sign.e' p seed salt j)
@@ -106,7 +106,7 @@ module _ (p : Params) (sound : Sound p) (vs key : List ℕ) (seed : ℕ → List
   exponents j l =
       record {
         long = length_mask p (seed j) salt (j + 1) (drawnⱼ j l);
-        ranged = kept_below 7 _ (below_mask p (seed j) salt (j + 1));
+        ranged = exponents_ranged p (seed j) salt (j + 1);
       }
 
   abbrev Rowⱼ : ℕ → List ℕ → Type 0
@@ -197,36 +197,42 @@ module _ (p : Params) (vs key seeds salt msg : List ℕ) where
       second_drawn p (sign.c p seedⱼ salt root) (sign.β p seedⱼ salt root msg) (sign.h p seedⱼ salt root msg) salt msg ∷
       []
 
-  pub rounds_short : first_refusal (seed_draws p seedⱼ salt) ≡ 2 → first_refusal (sign_draws p vs key seedⱼ salt msg) ≡ 2
+  pub rounds_short : (r : Refusal) → number_of r ≡ first_refusal (seed_draws p seedⱼ salt)
+      → number_of r ≡ first_refusal (sign_draws p vs key seedⱼ salt msg)
   unfolding sign_draws
-  rounds_short e = refused_front (seed_draws p seedⱼ salt) challenges 1 e
+  rounds_short r e = stops (seed_draws p seedⱼ salt) challenges e (number_positive r)
 
   module _
-      (drawn : first_refusal (seed_draws p seedⱼ salt) ≡ 0)
+      (drawn : 0 ≡ first_refusal (seed_draws p seedⱼ salt))
       {c : List ℕ}
       (c_same : c ≡ sign.c p seedⱼ salt root)
     where
-      first_same : first_drawn p (sign.c p seedⱼ salt root) salt msg ≡ first_drawn p c salt msg
-      first_same = ap (λ (s : List ℕ). first_drawn p s salt msg) (sym c_same)
+      -- the draw of the first challenges, from c
+      abbrev pub first_draw : List Check
+      first_draw = short_draw unless first_drawn p c salt msg ∷ []
 
-      pub first_short : first_drawn p c salt msg ≡ false → first_refusal (sign_draws p vs key seedⱼ salt msg) ≡ 2
+      after_first : {q : ℕ} → q ≡ first_refusal (first_draw ++ second_draw) → q ≡ first_refusal (sign_draws p vs key seedⱼ salt msg)
       unfolding sign_draws challenge_draws
-      first_short e =
-          passed_front (seed_draws p seedⱼ salt) challenges drawn
-          ∙ fails short_draw (first_drawn p (sign.c p seedⱼ salt root) salt msg) second_draw (first_same ∙ e)
+      after_first e =
+          goes_on (seed_draws p seedⱼ salt) challenges drawn refl
+          (e ∙ ap (λ (s : List ℕ). first_refusal (short_draw unless first_drawn p s salt msg ∷ second_draw)) c_same)
+
+      pub first_short : (r : Refusal) → number_of r ≡ first_refusal first_draw
+          → number_of r ≡ first_refusal (sign_draws p vs key seedⱼ salt msg)
+      first_short r e = after_first (stops first_draw second_draw e (number_positive r))
 
       pub replied : Sound p → {states β old new : List ℕ} {r : ℕ} →
           states ≡ flat (round_state p vs key seedⱼ salt) p.t →
-          first_drawn p c salt msg ≡ true →
+          0 ≡ first_refusal first_draw →
           β ≡ first_challenges p c salt msg →
           Replied p states β key seeds salt msg c old r new →
           SignedWith p vs key seedⱼ salt msg old r new
-      unfolding sign_draws challenge_draws signature_from sign.β sign.h sign.b
+      unfolding signature_from sign.β sign.h sign.b
       replied sound {states = states} {β = β} {old = old} {r = r} held suffices first answers =
           let β-same = first ∙ ap (λ (s : List ℕ). first_challenges p s salt msg) c_same in
-          let h_same = h_is p sound vs key seedⱼ salt drawn held β ∙ ap (sign.h_of_all p seedⱼ salt) β-same in
+          let h_same = h_is p sound vs key seedⱼ salt (sym drawn) held β ∙ ap (sign.h_of_all p seedⱼ salt) β-same in
           let parts_same =
-          parts_are p sound vs key seedⱼ salt drawn held seeds β (second_challenges p c β (h_of p states β) salt msg)
+          parts_are p sound vs key seedⱼ salt (sym drawn) held seeds β (second_challenges p c β (h_of p states β) salt msg)
           (λ j. refl)
           ∙ (λ i. flat
           (sign.part p vs key seedⱼ salt (β-same i) (second_challenges p (c_same i) (β-same i) (h_same i) salt msg))
@@ -234,10 +240,10 @@ module _ (p : Params) (vs key seeds salt msg : List ℕ) where
           in
           record {
             answer =
-                answers.answer
-                ∙ (λ i. first_refusal (short_draw unless second_drawn p (c_same i) (β-same i) (h_same i) salt msg ∷ []))
-                ∙ sym (passed_front (seed_draws p seedⱼ salt) challenges drawn
-                ∙ holds short_draw (first_drawn p (sign.c p seedⱼ salt root) salt msg) second_draw (first_same ∙ suffices));
+                after_first
+                (goes_on first_draw second_draw suffices refl
+                (answers.answer
+                ∙ (λ i. first_refusal (short_draw unless second_drawn p (c_same i) (β-same i) (h_same i) salt msg ∷ []))));
             content = answers.content ∙ (λ i. pick (eqb r 0) (salt ++ c_same i ++ h_same i ++ parts_same i) old);
           }
 

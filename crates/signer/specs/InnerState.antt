@@ -2,29 +2,20 @@
 -- is read out of such a state again. The definitions of `scheme` say what each of them is; no message enters a state.
 -- Round j from 0 is the paper's round i = j + 1.
 -- Assumes nothing.
-use Rattle.std.specs.Prelude.{◌≡◌, Bool, true, List, [], ◌∷◌, ◌++◌, ℕ, ◌+◌, ◌*◌, ◌<◌, eqb, length, take, drop, get_or}
+use Rattle.std.specs.Prelude.{◌≡◌, List, [], ◌∷◌, ◌++◌, ℕ, ◌+◌, ◌*◌, ◌<◌, eqb, length, take, drop, get_or}
 use Rattle.outcome.specs.Answer.{Check, ◌unless◌, short_draw, first_refusal, pick, Answers}
 use Rattle.outcome.specs.Lists.{flat}
 use Rattle.packing.specs.Packing.{pack}
 use Rattle.packing.specs.InnerVector.{Vector}
 use Rattle.parameters.specs.declared.Params.{Params}
-use Rattle.parameters.specs.Sound.{Sound}
 use Rattle.linear.specs.Linear.{response, transformation, scaled, syndrome}
 use Rattle.scheme.specs.Strings.{digest, commitment0_string, commitment1_string, response_string, all_responses_string}
 use Rattle.scheme.specs.Sign.{u', e', c0, c1, second_challenges, second_drawn, sign_draws, signature_from}
-use Rattle.signer.specs.declared.commit.Column.{Column}
 
 -- Checks that all refuse as short, with what they leave in a lent buffer where they pass.
-pub record Drawn (checks : List Check) (made : List ℕ) (ok : Bool) (lent : List ℕ) : Type 0 where
-  pub answer : first_refusal checks ≡ pick ok 0 2
-  pub content : ok ≡ true → lent ≡ made
-
--- the same bytes of each state: those of state j, and of all of them, joined
-abbrev pub column_at : (size offset width : ℕ) (states : List ℕ) → ℕ → List ℕ
-column_at size offset width states j = take width (drop offset (take size (drop (size * j) states)))
-
-abbrev pub column_of : Column → List ℕ → List ℕ
-column_of c states = flat (column_at c.size c.offset c.width states) c.count
+pub record Drawn (checks : List Check) (made : List ℕ) (r : ℕ) (lent : List ℕ) : Type 0 where
+  pub answer : r ≡ first_refusal checks
+  pub content : r ≡ 0 → lent ≡ made
 
 module _ (p : Params) where
   abbrev pub state_size : ℕ
@@ -63,12 +54,15 @@ module _ (p : Params) where
   abbrev pub c1_of : List ℕ → List ℕ
   c1_of state = take p.digest (drop (2 * p.n + p.digest) state)
 
-  -- all c0(i) and all c1(i)
+  -- the digests at an offset of all states; all c0(i) and all c1(i)
+  abbrev pub digests_at : ℕ → List ℕ → List ℕ
+  digests_at offset states = flat (λ j. take p.digest (drop offset (state_at states j))) p.t
+
   abbrev pub c0s : List ℕ → List ℕ
-  c0s states = flat (λ j. c0_of (state_at states j)) p.t
+  c0s states = digests_at (2 * p.n) states
 
   abbrev pub c1s : List ℕ → List ℕ
-  c1s states = flat (λ j. c1_of (state_at states j)) p.t
+  c1s states = digests_at (2 * p.n + p.digest) states
 
   -- y under a first challenge, and the part of a round: seed and c0(i) under 1; y, σ and c1(i) under 0
   unfoldable pub response_of : ℕ → List ℕ → List ℕ
@@ -105,11 +99,6 @@ module _ (p : Params) where
   pub record States (states : List ℕ) : Type 0 where
     pub all_sized : length states ≡ p.t * state_size
     pub each : (j : ℕ) → j < p.t → State (state_at states j)
-
-  -- what replying rests on: key exponents, the seeds and the states of the rounds, and first challenges
-  abbrev pub Challenged : (key seeds states β : List ℕ) → Type 0
-  Challenged key seeds states β =
-      Sound p × Vector 7 p.n key × (length seeds ≡ p.t * p.seed) × States states × Vector 127 p.t β
 
   -- what signing answers under V, key exponents and seeds of the rounds
   abbrev pub SignedWith : (vs key : List ℕ) (seed : ℕ → List ℕ) (salt msg old : List ℕ) (r : ℕ) (new : List ℕ) → Type 0

@@ -1,2 +1,1 @@
 pub mod InnerState
-pub mod InnerScratch

@@ -1,49 +1,48 @@
 // Sizes: that of a round's state, and those that signing tests first.
 ghost use Rattle.std.specs.Prelude.{◌≡◌};
 ghost use Rattle.outcome.specs.Answer.{first_refusal};
-ghost use Rattle.parameters.specs.Sound.{Sound};
+ghost use Rattle.outcome.specs.Result.{number_in};
 ghost use Rattle.scheme.specs.Sign.{sign_sizes};
 ghost use Rattle.signer.specs.InnerState.{state_size};
 
-use outcome::BAD_SIZE;
-use parameters::Params;
+use outcome::Refusal;
+use parameters::Category;
 
 // Bytes of the state of a round: two vectors and two digests.
-pub fn state_size(p: Params) -> usize
-    requires { Sound p }
-    ensures { result ≡ state_size p }
+pub fn state_size(p: Category) -> usize
+    ensures { result ≡ state_size p.sizes }
 {
-    2 * p.n + 2 * p.digest
+    2 * p.sizes.n + 2 * p.sizes.digest
 }
 
 // The sizes of what is given and lent.
+#[tactic(auto, using(std::proofs::lemmas::Bool::Decides::nat_tests), unfolding(scheme::specs::Sign::sign_sizes))]
 pub fn check_sizes(
-    p: Params,
+    p: Category,
     private: &[u8],
     master: &[u8],
     salt: &[u8],
     msg: &[u8],
     lent: usize,
-) -> u8
-    requires { Sound p }
-    ensures { result ≡ first_refusal (sign_sizes p private.now master.now salt.now
+) -> Result<(), Refusal>
+    ensures { number_in result ≡ first_refusal (sign_sizes p.sizes private.now master.now salt.now
         msg.now lent) }
 {
-    let d = p.digest;
+    let d = p.sizes.digest;
     if private.len() != d {
-        return BAD_SIZE;
+        return Err(Refusal::BadSize);
     }
-    if master.len() != p.seed {
-        return BAD_SIZE;
+    if master.len() != p.sizes.seed {
+        return Err(Refusal::BadSize);
     }
     if salt.len() != d {
-        return BAD_SIZE;
+        return Err(Refusal::BadSize);
     }
     if scheme::MESSAGE_MAX < msg.len() {
-        return BAD_SIZE;
+        return Err(Refusal::BadSize);
     }
     if lent != scheme::signature_size(p) {
-        return BAD_SIZE;
+        return Err(Refusal::BadSize);
     }
-    0
+    Ok(())
 }

@@ -1,15 +1,15 @@
 -- Laws of keys and of choices between two results. Assumes nothing.
 use mathlib.Core.Path.{◌≡◌, refl, ◌∙◌, sym, ap}
-use mathlib.Core.Bool.{Bool, true, false, ◌&&◌, ◌||◌, and_assoc}
+use mathlib.Core.Bool.{Bool, true, false, ◌&&◌, ◌||◌, not, not-not, and_assoc}
 use mathlib.Core.List.{List, [], ◌∷◌}
 use Prim.Native.Nat.{ℕ}
 use native.Mathlib.Omega.{arith}
 use lib.Dec.{T, eqb}
 use borrow.Author.Tests.{eqb-true, eq-eqb}
 use Rattle.outcome.specs.Answer.{pick}
-use Rattle.outcome.specs.Result.{done}
+use Rattle.outcome.specs.Result.{Ok}
 use Rattle.profile.specs.declared.Profile.{Profile}
-use Rattle.profile.specs.Rules.{Class, contains, in_one_of, letters, nominal_hertz, class_in, is_class, valid}
+use Rattle.profile.specs.Rules.{Class, contains, class_in, is_class, valid}
 use Rattle.profile.proofs.RuleLaws.{parts, valid_hertz}
 use Rattle.store.specs.declared.Key.{Key}
 use Rattle.store.specs.declared.Device.{Device}
@@ -43,6 +43,21 @@ pick_apart true false x y z apart = refl
 pick_apart false b x y z apart = refl
 
 -- ---- keys
+
+-- `==` of two keys
+pub equal_keys : (a b : Key)
+    → (eqb a.country.first b.country.first && eqb a.country.second b.country.second && (eqb a.class b.class && eqb a.hertz b.hertz))
+    ≡ same_key a b
+unfolding same_key
+equal_keys a b = simp and_assoc
+
+-- and what `!=` says of two keys that are known
+pub compared : {a b a' b' : Key} {r : Bool}
+    → r
+    ≡ not (eqb a.country.first b.country.first && eqb a.country.second b.country.second && (eqb a.class b.class && eqb a.hertz b.hertz))
+    → a ≡ a' → b ≡ b' → same_key a' b' ≡ not r
+compared {a} {b} {r = r} e p q =
+    sym (λ i. same_key (p i) (q i)) ∙ sym (equal_keys a b) ∙ sym (not-not _) ∙ sym (ap not e)
 
 pub same_eq : (a b : Key) → same_key a b ≡ true → a ≡ b
 unfolding same_key
@@ -86,29 +101,6 @@ key_apart a b differ = go (same_key a b) refl
     go true e = absurd (differ (same_eq a b e))
     go false e = refl
 
--- ---- devices
-
-module _ (table : List Class) (d : Device) where
-  pub device_country : (contains letters d.country.first && contains letters d.country.second) ≡ false
-      → device_ok table d ≡ false
-  unfolding device_ok
-  device_country e =
-      sym (and_assoc (contains letters d.country.first) (contains letters d.country.second) _)
-      ∙ and_fails (contains letters d.country.first && contains letters d.country.second) _ e
-
-  module _ (country : (contains letters d.country.first && contains letters d.country.second) ≡ true) where
-    pub device_letters : device_ok table d ≡ (has_class table d.class && in_one_of nominal_hertz d.hertz)
-    unfolding device_ok
-    device_letters =
-        sym (and_assoc (contains letters d.country.first) (contains letters d.country.second) _)
-        ∙ and_holds (contains letters d.country.first && contains letters d.country.second) _ country
-
-    pub device_class : has_class table d.class ≡ false → device_ok table d ≡ false
-    device_class e = device_letters ∙ and_fails (has_class table d.class) _ e
-
-    pub device_hertz : has_class table d.class ≡ true → device_ok table d ≡ in_one_of nominal_hertz d.hertz
-    device_hertz e = device_letters ∙ and_holds (has_class table d.class) _ e
-
 -- ---- the device of a valid profile
 
 or_second : (a b : Bool) → b ≡ true → (a || b) ≡ true
@@ -121,7 +113,7 @@ class_known : (table : List Class) (volts letter : ℕ) → is_class (class_in t
 class_known [] volts letter e = e
 class_known (c ∷ cs) volts letter e = go (contains c.volts volts) e (class_known cs volts letter)
   where
-    go : (b : Bool) → is_class (pick b (done c.letter) (class_in cs volts)) letter ≡ true
+    go : (b : Bool) → is_class (pick b (Ok c.letter) (class_in cs volts)) letter ≡ true
         → (is_class (class_in cs volts) letter ≡ true → has_class cs letter ≡ true)
         → (eqb letter c.letter || has_class cs letter) ≡ true
     go true e rest = rw e
@@ -129,14 +121,11 @@ class_known (c ∷ cs) volts letter e = go (contains c.volts volts) e (class_kno
 
 pub device_of_valid : (table : List Class) (profile : Profile) (device : Device) → T (valid table profile)
     → device_key device ≡ key_of profile → device_ok table device ≡ true
+unfolding device_ok
 device_of_valid table profile device ok its =
     let rules = parts table profile ok in
-    let its_country : device.country ≡ profile.country = ap (λ (k : Key). k.country) its in
+    let country : device.country ≡ profile.country = ap (λ (k : Key). k.country) its in
     let class : device.class ≡ profile.class = ap (λ (k : Key). k.class) its in
     let hertz : device.hertz ≡ profile.hertz = ap (λ (k : Key). k.hertz) its in
-    let first : contains letters device.country.first ≡ true = rw its_country rules.first in
-    let second : contains letters device.country.second ≡ true = rw its_country rules.second in
-    let known : has_class table device.class ≡ true =
-    rw class (class_known table profile.volts profile.class rules.agrees) in
-    let country = and_holds (contains letters device.country.first) _ first ∙ second in
-    device_hertz table device country known ∙ rw hertz (valid_hertz table profile ok)
+    rw (country, class, hertz, rules.first, rules.second, class_known table profile.volts profile.class rules.agrees)
+    (valid_hertz table profile ok)

@@ -8,8 +8,15 @@ use native.Mathlib.Omega.{arith}
 use borrow.Rule.Slice.PartMut.{put_mid}
 use lib.ListN.{length, get_or, take, drop, set, length-drop, drop_of_length-le}
 use lib.Seq.{length-take-le, drop-cons, take_at, drop_at, drop-drop, take-add}
-use Rattle.outcome.specs.Answer.{not_stored}
-use Rattle.outcome.specs.Result.{done, refused}
+use Rattle.std.specs.Simd.{first_chunks}
+use Rattle.std.specs.List.{position_or_len}
+use Rattle.std.specs.Prelude.{Option, Some, None, unwrap_or, map, cond, not}
+use borrow.Author.Tests.{ltb-false}
+use lib.Dec.{ltb}
+use Rattle.std.proofs.lemmas.List.{take-take, drop-take}
+use Rattle.std.proofs.lemmas.List.Sums.{prefix_len-le-length}
+use Rattle.outcome.specs.Answer.{not_stored, pick}
+use Rattle.outcome.specs.Result.{Ok, Err}
 use Rattle.profile.specs.declared.Profile.{Profile}
 use Rattle.image.specs.Image.{profile_size, profile_of, image_of, ProfileWritten}
 use Rattle.image.proofs.ImageLaws.{image_size}
@@ -29,8 +36,9 @@ use Rattle.store.specs.Stored.{
   holding,
   first_slot,
 }
+use Rattle.store.specs.Slots.{slot_parts}
 use Rattle.store.proofs.StoredLaws.{find_none}
-use Rattle.store.proofs.SlotLaws.{unset, search_here, search_more, search_end, found_at, found_nowhere}
+use Rattle.store.proofs.SlotLaws.{unset, found_at, found_nowhere}
 
 pub slots_length : (n : ℕ) (image : List ℕ) → length (slots_of n image) ≡ n
 unfolding slots_of
@@ -67,51 +75,84 @@ module _ (image : List ℕ) (i : ℕ) where
       let past : length (slots_of capacity image) ≤ i = omega arith in
       drop_of_length-le (slots_of capacity image) past
 
--- the part of an image from a slot's place to its end is the slot
-pub part_slot : (i : ℕ) (image : List ℕ)
-    → take (profile_size * i + profile_size - profile_size * i) (drop (profile_size * i) image) ≡ slot_bytes i image
-part_slot i image =
-    let width : profile_size * i + profile_size - profile_size * i ≡ profile_size = omega arith in
-    ap (λ (k : ℕ). take k (drop (profile_size * i) image)) width
+-- ---- the slots' bytes
+
+-- as many as are asked for, and each those of its slot
+pub parts_length : (n : ℕ) (image : List ℕ) → length (slot_parts n image) ≡ n
+unfolding slot_parts
+parts_length zero image = refl
+parts_length (suc n) image = ap suc (parts_length n (drop profile_size image))
+
+pub part_at : (n i : ℕ) (image : List ℕ) → i < n → get_or (slot_parts n image) i [] ≡ slot_bytes i image
+unfolding slot_parts
+part_at zero i image h = absurd (omega arith)
+part_at (suc n) zero image h = refl
+part_at (suc n) (suc i) image h =
+    let place : profile_size + profile_size * i ≡ profile_size * suc i = omega arith in
+    part_at n i (drop profile_size image) (omega arith)
+    ∙ ap (take profile_size) (drop-drop (profile_size * i) profile_size image ∙ ap (λ (k : ℕ). drop k image) place)
+
+pub parts_mean : (n : ℕ) (image : List ℕ) → map slot_of (slot_parts n image) ≡ slots_of n image
+unfolding slot_parts slots_of
+parts_mean zero image = refl
+parts_mean (suc n) image = ap (λ (ss : List Slot). slot_of (take profile_size image) ∷ ss) (parts_mean n (drop profile_size image))
+
+-- the front of an image cut into so many parts
+pub parts_cut : (n : ℕ) (image : List ℕ) → first_chunks profile_size n (take (n * profile_size) image) ≡ slot_parts n image
+unfolding slot_parts
+parts_cut zero image = refl
+parts_cut (suc n) image =
+    let more : suc n * profile_size ≡ profile_size + n * profile_size = omega arith in
+    let front = take-take profile_size (profile_size + n * profile_size) image (omega arith) in
+    ap (λ (k : ℕ). first_chunks profile_size (suc n) (take k image)) more
+    ∙ (λ j. front j ∷ first_chunks profile_size n (drop-take profile_size (n * profile_size) image j))
+    ∙ ap (λ (ps : List (List ℕ)). take profile_size image ∷ ps) (parts_cut n (drop profile_size image))
 
 -- ---- searching
 
--- no slot before the place passes the test
-abbrev pub Passed : (Slot → Bool) → List ℕ → ℕ → Type 0
-Passed test image i =
-    i + first_slot test (drop i (slots_of capacity image)) ≡ first_slot test (slots_of capacity image)
+first_or : (test : Slot → Bool) (parts : List (List ℕ)) → position_or_len (λ b. test (slot_of b)) parts ≡ first_slot test (map slot_of parts)
+unfolding first_slot
+first_or test [] = refl
+first_or test (b ∷ parts) = go (test (slot_of b)) (first_or test parts)
+  where
+    go : (t : Bool) → position_or_len (λ b. test (slot_of b)) parts ≡ first_slot test (map slot_of parts)
+        → cond (not t) (1 + position_or_len (λ b. test (slot_of b)) parts) 0 ≡ pick t 0 (suc (first_slot test (map slot_of parts)))
+    go true e = refl
+    go false e = omega (arith, e)
 
--- the next slot passes it, or does not, or there is none
-module _ (test : Slot → Bool) (image : List ℕ) (i : ℕ) (passed : Passed test image i) where
-  size : length (slots_of capacity image) ≡ capacity
-  size = slots_length capacity image
-
-  pub find_here : i < capacity → test (slot_of (slot_bytes i image)) ≡ true → i ≡ first_slot test (slots_of capacity image)
-  find_here h e =
-      search_here test (slots_of capacity image) i passed (omega (arith, size, h))
-      (ap test (slot_at capacity i image h) ∙ e)
-
-  pub find_more : i < capacity → test (slot_of (slot_bytes i image)) ≡ false → Passed test image (i + 1)
-  find_more h e =
-      search_more test (slots_of capacity image) i passed (omega (arith, size, h))
-      (ap test (slot_at capacity i image h) ∙ e)
-
-  pub find_end : capacity ≤ i → i ≡ first_slot test (slots_of capacity image)
-  find_end h = search_end test (slots_of capacity image) i passed (omega (arith, size, h))
+-- the place that a search of the slots' bytes gives is that of the first slot that passes the test
+pub place_first : (test : Slot → Bool) (image : List ℕ) {parts : List (List ℕ)} {o : Option ℕ}
+    → o
+    ≡ cond (ltb (position_or_len (λ b. test (slot_of b)) parts) (length parts))
+    (Some (position_or_len (λ b. test (slot_of b)) parts)) None
+    → parts ≡ slot_parts capacity image → unwrap_or o capacity ≡ first_slot test (slots_of capacity image)
+place_first test image {parts} {o} found whole =
+    let place : ℕ = position_or_len (λ b. test (slot_of b)) parts in
+    ap (λ (p : Option ℕ). unwrap_or p capacity) found
+    ∙ at place (ltb place (length parts)) refl (prefix_len-le-length (λ b. not (test (slot_of b))) parts)
+    ∙ first_or test parts
+    ∙ ap (λ (ps : List (List ℕ)). first_slot test (map slot_of ps)) whole
+    ∙ ap (first_slot test) (parts_mean capacity image)
+  where
+    at : (p : ℕ) (b : Bool) → ltb p (length parts) ≡ b → p ≤ length parts
+        → unwrap_or (cond b (Some p) None) capacity ≡ p
+    at p true e h = refl
+    at p false e h =
+        omega (arith, ltb-false p (length parts) e, h, ap length whole, parts_length capacity image)
 
 -- what is found under a key, once the first slot that holds it is known
 module _ (k : Key) (image : List ℕ) (i : ℕ) (first : i ≡ first_slot (holding k) (slots_of capacity image)) where
-  pub held : i < capacity → find k (stored image) ≡ done (profile_of (slot_bytes i image))
+  pub held : i < capacity → find k (stored image) ≡ Ok (profile_of (slot_bytes i image))
   held h =
       let size = slots_length capacity image in
       found_at k (slots_of capacity image) unset (omega arith)
-      ∙ ap (λ (n : ℕ). done (get_or (slots_of capacity image) n unset).profile) (sym first)
-      ∙ ap (λ (s : Slot). done s.profile) (slot_at capacity i image h)
+      ∙ ap (λ (n : ℕ). Ok (get_or (slots_of capacity image) n unset).profile) (sym first)
+      ∙ ap (λ (s : Slot). Ok s.profile) (slot_at capacity i image h)
 
   pub held_nowhere : capacity ≤ i → is_stored k (stored image) ≡ false
   held_nowhere h = let size = slots_length capacity image in found_nowhere k (slots_of capacity image) (omega arith)
 
-  pub held_none : capacity ≤ i → find k (stored image) ≡ refused not_stored
+  pub held_none : capacity ≤ i → find k (stored image) ≡ Err not_stored
   held_none h = find_none k (stored image) (held_nowhere h)
 
 -- ---- writing

@@ -6,9 +6,9 @@ use Prim.Native.Nat.{ℕ, suc, ◌≤◌, ◌<◌}
 use native.Mathlib.Omega.{arith}
 use lib.Dec.{ltb}
 use lib.ListN.{length, get_or}
-use borrow.Author.Tests.{eq-eqb, ne_eqb, lt-ltb, le-ltb}
+use borrow.Author.Tests.{eq-eqb, lt-ltb, le-ltb}
 use Rattle.outcome.specs.Answer.{store_full, not_stored, ◌unless◌, first_refusal, pick}
-use Rattle.outcome.specs.Result.{done, refused}
+use Rattle.outcome.specs.Result.{Ok, Err}
 use Rattle.profile.specs.declared.Profile.{Profile}
 use Rattle.image.specs.Image.{profile_of, has_image}
 use Rattle.store.specs.declared.Key.{Key}
@@ -45,25 +45,25 @@ module _ (d : Device) (p : Profile) (ps : List Profile) where
   unfolding put_number
   put_other e = rw e
 
-  pub put_old : same_key (key_of p) (device_key d) ≡ true → (q : Profile) → find (key_of p) ps ≡ done q
+  pub put_old : same_key (key_of p) (device_key d) ≡ true → (q : Profile) → find (key_of p) ps ≡ Ok q
       → p.serial ≤ q.serial
       → put_number d p ps ≡ 7
   unfolding put_number
   put_old e q f h = rw (e, f, le-ltb q.serial p.serial h)
 
-  pub put_newer : same_key (key_of p) (device_key d) ≡ true → (q : Profile) → find (key_of p) ps ≡ done q
+  pub put_newer : same_key (key_of p) (device_key d) ≡ true → (q : Profile) → find (key_of p) ps ≡ Ok q
       → q.serial < p.serial
       → put_number d p ps ≡ 0
   unfolding put_number
   put_newer e q f h = rw (e, f, lt-ltb q.serial p.serial h)
 
-  pub put_full : same_key (key_of p) (device_key d) ≡ true → find (key_of p) ps ≡ refused not_stored
+  pub put_full : same_key (key_of p) (device_key d) ≡ true → find (key_of p) ps ≡ Err not_stored
       → capacity ≤ length ps
       → put_number d p ps ≡ 8
   unfolding put_number
   put_full e f h = rw (e, f, le-ltb (length ps) capacity h)
 
-  pub put_room : same_key (key_of p) (device_key d) ≡ true → find (key_of p) ps ≡ refused not_stored
+  pub put_room : same_key (key_of p) (device_key d) ≡ true → find (key_of p) ps ≡ Err not_stored
       → length ps < capacity
       → put_number d p ps ≡ 0
   unfolding put_number
@@ -112,10 +112,6 @@ pub put_sized : (d : Device) (p : Profile) (old : List ℕ) → length old ≡ s
 unfolding put_number
 put_sized d p old size kinds = rw (eq-eqb (length old) store_size size, kinds)
 
-not_kinded : (d : Device) (p : Profile) (old : List ℕ) → length old ≡ store_size → has_image p ≡ false
-    → first_refusal (put_image_checks d p old) ≡ 5
-not_kinded d p old size none = rw (eq-eqb (length old) store_size size, none)
-
 -- ---- the slot that is chosen
 
 module _ (k : Key) (image : List ℕ) (i : ℕ) (first : i ≡ first_slot (holding k) (slots_of capacity image)) where
@@ -136,25 +132,6 @@ module _ (k : Key) (image : List ℕ) (i : ℕ) (first : i ≡ first_slot (holdi
       }
 
 -- ---- what `put` answers
-
--- an image of another size is refused before all else
-pub answers_size : {d : Device} {p : Profile} {old : List ℕ} → (length old ≡ store_size → ⊥) → Puts d p old 1 old
-answers_size {old = old} other =
-    record {
-      answer = sym (rw (ne_eqb (length old) store_size other));
-      taken = λ z. absurd (omega arith);
-      kept = λ z. refl;
-    }
-
--- and then a profile that has no image
-pub answers_kinds : {d : Device} {p : Profile} {old : List ℕ} → length old ≡ store_size → has_image p ≡ false
-    → Puts d p old 5 old
-answers_kinds {d} {p} {old} size none =
-    record {
-      answer = sym (not_kinded d p old size none);
-      taken = λ z. absurd (omega arith);
-      kept = λ z. refl;
-    }
 
 -- an answer that refuses and leaves the store, and one that stores
 module _ {d : Device} {p : Profile} {old : List ℕ} (size : length old ≡ store_size) (kinds : has_image p ≡ true) where

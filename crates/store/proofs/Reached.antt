@@ -16,7 +16,7 @@ use lib.Dec.{T, eqb, ltb, ltb→lt}
 use lib.ListN.{length}
 use borrow.Author.Tests.{eq-eqb, ne_eqb, ltb-true}
 use Rattle.outcome.specs.Answer.{pick}
-use Rattle.outcome.specs.Result.{Result, done}
+use Rattle.outcome.specs.Result.{Result, Ok}
 use Rattle.outcome.proofs.Checks.{passed}
 use Rattle.profile.specs.declared.Profile.{Profile}
 use Rattle.profile.specs.Rules.{Class, valid}
@@ -79,10 +79,10 @@ puts_step d p old r new size kinds puts =
 -- what an accepted call stores was not found before, since its serial is greater than that of what was
 pub put_changes : PutChanges
 put_changes d p old r new puts zero same =
-    let after : find (key_of p) (stored new) ≡ done p =
+    let after : find (key_of p) (stored new) ≡ Ok p =
     (puts.taken zero).stores.finds (key_of p) ∙ rw (same_refl (key_of p)) in
-    let before : find (key_of p) (stored old) ≡ done p =
-    subst (λ (image : List ℕ). find (key_of p) (stored image) ≡ done p) same after in
+    let before : find (key_of p) (stored old) ≡ Ok p =
+    subst (λ (image : List ℕ). find (key_of p) (stored image) ≡ Ok p) same after in
     let tests = passed (put_image_checks d p old) (sym puts.answer ∙ zero) in
     let greater : T (ltb p.serial p.serial) =
     subst (λ (q : Result Profile). T (newer p q)) before tests.1.1.1.0 in
@@ -141,12 +141,12 @@ insert_valid table p (q ∷ qs) ok all = go (same_key (key_of q) (key_of p)) (in
     go false rest = (all.0, rest)
 
 pub find_valid : (table : List Class) (k : Key) (ps : List Profile) (p : Profile) → AllValid table ps
-    → find k ps ≡ done p → T (valid table p)
+    → find k ps ≡ Ok p → T (valid table p)
 unfolding find
 find_valid table k [] p all e = let z : ◌≡◌ {A = ℕ} 0 1 = cc in absurd (omega arith)
 find_valid table k (q ∷ qs) p all e = go (same_key (key_of q) k) e (find_valid table k qs p all.1)
   where
-    go : (b : Bool) → pick b (done q) (find k qs) ≡ done p → (find k qs ≡ done p → T (valid table p))
+    go : (b : Bool) → pick b (Ok q) (find k qs) ≡ Ok p → (find k qs ≡ Ok p → T (valid table p))
         → T (valid table p)
     go true f rest = let same : q ≡ p = cc in subst (λ (r : Profile). T (valid table r)) same all.0
     go false f rest = rest f
@@ -182,7 +182,7 @@ step_agree {c} {ps} {qs} step u ms agree =
     (record {
       as_map = λ k.
           new.finds k
-          ∙ ap (λ (r : Result Profile). pick (same_key (key_of p) k) (done p) r) (agree.as_map k)
+          ∙ ap (λ (r : Result Profile). pick (same_key (key_of p) k) (Ok p) r) (agree.as_map k)
           ∙ sym (find_insert k p ms);
       listed = Permᴰ.trans new.listed (perm_insert p agree.listed u);
     }))
@@ -215,16 +215,16 @@ run_agree table (c ∷ cs) ps rs run u ms agree =
     run_agree table cs run.0 rs run.3 (step_distinct run.2 u) (next c ms) (step_agree run.2 u ms agree)
 
 -- what is found was there before the run, or entered in it
-step_entered : {c : Call} {ps qs : List Profile} → Step c ps qs → (k : Key) (p : Profile) → find k qs ≡ done p
-    → (find k ps ≡ done p) ⊎ ((answer_to c ps ≡ 0) × (device_key c.device ≡ k) × (c.profile ≡ p))
+step_entered : {c : Call} {ps qs : List Profile} → Step c ps qs → (k : Key) (p : Profile) → find k qs ≡ Ok p
+    → (find k ps ≡ Ok p) ⊎ ((answer_to c ps ≡ 0) × (device_key c.device ≡ k) × (c.profile ≡ p))
 step_entered {c} {ps} {qs} step k p f =
     by_answer step
     (λ e new. go e (same_key (key_of c.profile) k) refl (sym (new.finds k) ∙ f))
-    (λ ne same. inl (subst (λ (l : List Profile). find k l ≡ done p) same f))
+    (λ ne same. inl (subst (λ (l : List Profile). find k l ≡ Ok p) same f))
   where
     go : answer_to c ps ≡ 0 → (b : Bool) → same_key (key_of c.profile) k ≡ b
-        → pick b (done c.profile) (find k ps) ≡ done p
-        → (find k ps ≡ done p) ⊎ ((answer_to c ps ≡ 0) × (device_key c.device ≡ k) × (c.profile ≡ p))
+        → pick b (Ok c.profile) (find k ps) ≡ Ok p
+        → (find k ps ≡ Ok p) ⊎ ((answer_to c ps ≡ 0) × (device_key c.device ≡ k) × (c.profile ≡ p))
     go e true s g =
         let passed = put_passed c.device c.profile ps e in
         let its = same_eq (key_of c.profile) (device_key c.device) passed.0 in
@@ -233,12 +233,12 @@ step_entered {c} {ps} {qs} step k p f =
     go e false s g = inl g
 
 run_entered : (table : List Class) (cs : List Call) (ps rs : List Profile) → Run table ps cs rs → (k : Key)
-    (p : Profile) → find k rs ≡ done p → (find k ps ≡ done p) ⊎ Entered table ps cs rs k p
-run_entered table [] ps rs run k p f = inl (subst (λ (l : List Profile). find k l ≡ done p) run f)
+    (p : Profile) → find k rs ≡ Ok p → (find k ps ≡ Ok p) ⊎ Entered table ps cs rs k p
+run_entered table [] ps rs run k p f = inl (subst (λ (l : List Profile). find k l ≡ Ok p) run f)
 run_entered table (c ∷ cs) ps rs run k p f = go (run_entered table cs run.0 rs run.3 k p f)
   where
-    here : (find k ps ≡ done p) ⊎ ((answer_to c ps ≡ 0) × (device_key c.device ≡ k) × (c.profile ≡ p))
-        → (find k ps ≡ done p) ⊎ Entered table ps (c ∷ cs) rs k p
+    here : (find k ps ≡ Ok p) ⊎ ((answer_to c ps ≡ 0) × (device_key c.device ≡ k) × (c.profile ≡ p))
+        → (find k ps ≡ Ok p) ⊎ Entered table ps (c ∷ cs) rs k p
     here (inl g) = inl g
     here (inr w) =
         inr
@@ -255,8 +255,8 @@ run_entered table (c ∷ cs) ps rs run k p f = go (run_entered table cs run.0 rs
           profile = w.2;
         })
 
-    go : (find k run.0 ≡ done p) ⊎ Entered table run.0 cs rs k p
-        → (find k ps ≡ done p) ⊎ Entered table ps (c ∷ cs) rs k p
+    go : (find k run.0 ≡ Ok p) ⊎ Entered table run.0 cs rs k p
+        → (find k ps ≡ Ok p) ⊎ Entered table ps (c ∷ cs) rs k p
     go (inl g) = here (step_entered run.2 k p g)
     go (inr w) =
         inr
@@ -288,12 +288,12 @@ reached_hold table calls ps run =
       entered = λ classes d p e. origin d p (lookup_find classes d ps p e);
     }
   where
-    entry : (d : Device) (p : Profile) → (find (device_key d) [] ≡ done p) ⊎ Entered table [] calls ps (device_key d) p
+    entry : (d : Device) (p : Profile) → (find (device_key d) [] ≡ Ok p) ⊎ Entered table [] calls ps (device_key d) p
         → Entered table [] calls ps (device_key d) p
     entry d p (inl e) = let z : ◌≡◌ {A = ℕ} 0 1 = cc in absurd (omega arith)
     entry d p (inr w) = w
 
-    origin : (d : Device) (p : Profile) → find (device_key d) ps ≡ done p
+    origin : (d : Device) (p : Profile) → find (device_key d) ps ≡ Ok p
         → (key_of p ≡ device_key d) × Entered table [] calls ps (device_key d) p
     origin d p f =
         let its = same_eq (key_of p) (device_key d) (find_key (device_key d) ps p f) in

@@ -3,17 +3,15 @@ use mathlib.Core.Path.{◌≡◌, refl, ◌∙◌, ap}
 use mathlib.Core.Bool.{Bool, true, false, ◌&&◌, not}
 use mathlib.Core.List.Permᴰ
 use mathlib.Core.List.{List, [], ◌∷◌}
-use Prim.Native.Nat.{ℕ, zero, suc, ◌+◌, ◌≤◌, ◌<◌}
-use native.Mathlib.Numerals.{add-one}
+use Prim.Native.Nat.{ℕ, zero, suc, ◌≤◌, ◌<◌}
 use native.Mathlib.Omega.{arith}
-use lib.ListN.{length, get_or, set, drop, drop_of_length-le}
-use lib.Seq.{drop-cons}
+use lib.ListN.{length, get_or, set}
 use Rattle.outcome.specs.Answer.{pick}
 use Rattle.profile.specs.declared.Limit.TheVariants.{Share}
 use Rattle.profile.specs.declared.Trip.{Trip}
-use Rattle.profile.specs.declared.RatePoint.TheVariants.{Absent}
+use Rattle.std.specs.Prelude.{None}
 use Rattle.profile.specs.declared.Profile.{Profile}
-use Rattle.outcome.specs.Result.{done}
+use Rattle.outcome.specs.Result.{Ok}
 use Rattle.store.specs.declared.Key.{Key}
 use Rattle.store.specs.Keys.{key_of, same_key}
 use Rattle.store.specs.Stored.{
@@ -30,8 +28,6 @@ use Rattle.store.specs.Stored.{
 use Rattle.store.specs.Calls.{Perm, Stores}
 use Rattle.store.proofs.KeyLaws.{not_both, pick_apart, same_apart}
 use Rattle.store.proofs.StoredLaws.{find_insert, insert_end, perm_eq, perm_last}
-
--- ---- searching slot by slot
 
 -- what an index past the end reads
 abbrev pub unset : Slot
@@ -50,31 +46,9 @@ unset =
             under_voltage = trip;
             over_frequency = trip;
             under_frequency = trip;
-            rate_of_change = Absent;
+            rate_of_change = None;
           };
     }
-
--- after i slots that fail the test: the next passes, or fails, or there is none
-module _ (test : Slot → Bool) (ss : List Slot) (i : ℕ)
-    (failed : i + first_slot test (drop i ss) ≡ first_slot test ss) where
-  pub search_here : i < length ss → test (get_or ss i unset) ≡ true → i ≡ first_slot test ss
-  unfolding first_slot
-  search_here h e =
-      let here : first_slot test (drop i ss) ≡ 0 = rw (drop-cons ss i unset h, e) in
-      omega arith
-
-  pub search_more : i < length ss → test (get_or ss i unset) ≡ false
-      → i + 1 + first_slot test (drop (i + 1) ss) ≡ first_slot test ss
-  unfolding first_slot
-  search_more h e =
-      let more : first_slot test (drop i ss) ≡ suc (first_slot test (drop (suc i) ss)) = rw (drop-cons ss i unset h, e) in
-      rw (add-one i) (omega arith)
-
-  pub search_end : length ss ≤ i → i ≡ first_slot test ss
-  unfolding first_slot
-  search_end h =
-      let none : first_slot test (drop i ss) ≡ 0 = rw (drop_of_length-le ss h) in
-      omega arith
 
 -- the slot that is found passes the test
 pub first_passes : (test : Slot → Bool) (ss : List Slot) (d : Slot) → first_slot test ss < length ss
@@ -93,7 +67,7 @@ first_passes test (s ∷ ss) d h = go (test s) refl h (first_passes test ss d)
 
 -- it holds what is found under the key
 pub found_at : (k : Key) (ss : List Slot) (d : Slot) → first_slot (holding k) ss < length ss
-    → find k (profiles_in ss) ≡ done (get_or ss (first_slot (holding k) ss) d).profile
+    → find k (profiles_in ss) ≡ Ok (get_or ss (first_slot (holding k) ss) d).profile
 unfolding first_slot profiles_in find
 found_at k [] d h = absurd (omega arith)
 found_at k (s ∷ ss) d h = go s.used (same_key (key_of s.profile) k) refl h (found_at k ss d)
@@ -101,9 +75,9 @@ found_at k (s ∷ ss) d h = go s.used (same_key (key_of s.profile) k) refl h (fo
     go : (u m : Bool) → same_key (key_of s.profile) k ≡ m
         → pick (u && m) 0 (suc (first_slot (holding k) ss)) < suc (length ss)
         → (first_slot (holding k) ss < length ss
-        → find k (profiles_in ss) ≡ done (get_or ss (first_slot (holding k) ss) d).profile)
+        → find k (profiles_in ss) ≡ Ok (get_or ss (first_slot (holding k) ss) d).profile)
         → find k (pick u (s.profile ∷ profiles_in ss) (profiles_in ss))
-        ≡ done (get_or (s ∷ ss) (pick (u && m) 0 (suc (first_slot (holding k) ss))) d).profile
+        ≡ Ok (get_or (s ∷ ss) (pick (u && m) 0 (suc (first_slot (holding k) ss))) d).profile
     go true true e h rest = rw e
     go true false e h rest = rw e (rest (omega arith))
     go false m e h rest = rest (omega arith)
@@ -171,14 +145,14 @@ added p (s ∷ ss) (suc i) d h f = go s.used (added p ss i d (omega arith) f)
 -- a profile of a new key is found wherever it stands
 added_finds : (p : Profile) (ss : List Slot) (i : ℕ) (d : Slot) → i < length ss → is_free (get_or ss i d) ≡ true
     → is_stored (key_of p) (profiles_in ss) ≡ false → (k : Key)
-    → find k (profiles_in (set ss i (slot_for p))) ≡ pick (same_key (key_of p) k) (done p) (find k (profiles_in ss))
+    → find k (profiles_in (set ss i (slot_for p))) ≡ pick (same_key (key_of p) k) (Ok p) (find k (profiles_in ss))
 unfolding profiles_in find
 added_finds p [] i d h f new k = absurd (omega arith)
 added_finds p (s ∷ ss) zero d h f new k = go s.used f
   where
     go : (u : Bool) → not u ≡ true
-        → pick (same_key (key_of p) k) (done p) (find k (profiles_in ss))
-        ≡ pick (same_key (key_of p) k) (done p) (find k (pick u (s.profile ∷ profiles_in ss) (profiles_in ss)))
+        → pick (same_key (key_of p) k) (Ok p) (find k (profiles_in ss))
+        ≡ pick (same_key (key_of p) k) (Ok p) (find k (pick u (s.profile ∷ profiles_in ss) (profiles_in ss)))
     go true f = absurd (not_both false f refl)
     go false f = refl
 added_finds p (s ∷ ss) (suc i) d h f new k =
@@ -187,13 +161,13 @@ added_finds p (s ∷ ss) (suc i) d h f new k =
   where
     go : (u m : Bool) → same_key (key_of s.profile) (key_of p) ≡ m → (ps qs : List Profile)
         → is_stored (key_of p) (pick u (s.profile ∷ ps) ps) ≡ false
-        → (is_stored (key_of p) ps ≡ false → find k qs ≡ pick (same_key (key_of p) k) (done p) (find k ps))
+        → (is_stored (key_of p) ps ≡ false → find k qs ≡ pick (same_key (key_of p) k) (Ok p) (find k ps))
         → find k (pick u (s.profile ∷ qs) qs)
-        ≡ pick (same_key (key_of p) k) (done p) (find k (pick u (s.profile ∷ ps) ps))
+        ≡ pick (same_key (key_of p) k) (Ok p) (find k (pick u (s.profile ∷ ps) ps))
     go true true e ps qs new rest = absurd (not_both true refl (rw e at new))
     go true false e ps qs new rest =
         rw (rest (rw e at new))
-        (pick_apart (same_key (key_of s.profile) k) (same_key (key_of p) k) (done s.profile) (done p) (find k ps)
+        (pick_apart (same_key (key_of s.profile) k) (same_key (key_of p) k) (Ok s.profile) (Ok p) (find k ps)
         (same_apart (key_of s.profile) (key_of p) k e))
     go false m e ps qs new rest = rest new
 

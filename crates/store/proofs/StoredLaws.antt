@@ -13,7 +13,7 @@ use native.Mathlib.Omega.{arith}
 use lib.ListN.{length}
 use Rattle.outcome.specs.Answer.{not_stored, pick}
 use Rattle.profile.specs.declared.Profile.{Profile}
-use Rattle.outcome.specs.Result.{Result, done, refused}
+use Rattle.outcome.specs.Result.{Result, Ok, Err}
 use Rattle.store.specs.declared.Key.{Key}
 use Rattle.store.specs.Keys.{key_of, same_key}
 use Rattle.store.specs.Stored.{find, is_done, is_stored, insert, Distinct}
@@ -23,17 +23,17 @@ use Rattle.store.proofs.KeyLaws.{not_both, pick_again, pick_apart, same_eq, same
 -- ---- finding
 
 -- what is found has the key
-pub find_key : (k : Key) (ps : List Profile) (p : Profile) → find k ps ≡ done p → same_key (key_of p) k ≡ true
+pub find_key : (k : Key) (ps : List Profile) (p : Profile) → find k ps ≡ Ok p → same_key (key_of p) k ≡ true
 unfolding find
 find_key k [] p e = let z : ◌≡◌ {A = ℕ} 0 1 = cc in absurd (omega arith)
 find_key k (q ∷ qs) p e = go (same_key (key_of q) k) refl e (find_key k qs p)
   where
-    go : (b : Bool) → same_key (key_of q) k ≡ b → pick b (done q) (find k qs) ≡ done p
-        → (find k qs ≡ done p → same_key (key_of p) k ≡ true) → same_key (key_of p) k ≡ true
+    go : (b : Bool) → same_key (key_of q) k ≡ b → pick b (Ok q) (find k qs) ≡ Ok p
+        → (find k qs ≡ Ok p → same_key (key_of p) k ≡ true) → same_key (key_of p) k ≡ true
     go true s f rest = let same : q ≡ p = cc in rw same at s
     go false s f rest = rest f
 
-is_done_lem : (b : Bool) (p : Profile) (r : Result Profile) → is_done (pick b (done p) r) ≡ (b || is_done r)
+is_done_lem : (b : Bool) (p : Profile) (r : Result Profile) → is_done (pick b (Ok p) r) ≡ (b || is_done r)
 is_done_lem true p r = refl
 is_done_lem false p r = refl
 
@@ -43,14 +43,14 @@ unfolding find
 stored_cons k p ps = is_done_lem (same_key (key_of p) k) p (find k ps)
 
 -- what is not stored is found nowhere
-pub find_none : (k : Key) (ps : List Profile) → is_stored k ps ≡ false → find k ps ≡ refused not_stored
+pub find_none : (k : Key) (ps : List Profile) → is_stored k ps ≡ false → find k ps ≡ Err not_stored
 unfolding find
 find_none k [] e = refl
 find_none k (p ∷ ps) e = go (same_key (key_of p) k) e (find_none k ps)
   where
-    go : (b : Bool) → is_done (pick b (done p) (find k ps)) ≡ false
-        → (is_stored k ps ≡ false → find k ps ≡ refused not_stored)
-        → pick b (done p) (find k ps) ≡ refused not_stored
+    go : (b : Bool) → is_done (pick b (Ok p) (find k ps)) ≡ false
+        → (is_stored k ps ≡ false → find k ps ≡ Err not_stored)
+        → pick b (Ok p) (find k ps) ≡ Err not_stored
     go true f rest = absurd (not_both true refl f)
     go false f rest = rest f
 
@@ -58,20 +58,20 @@ find_none k (p ∷ ps) e = go (same_key (key_of p) k) e (find_none k ps)
 
 -- after p is inserted it is found under its key, and under any other key what was found before
 pub find_insert : (k : Key) (p : Profile) (ps : List Profile)
-    → find k (insert p ps) ≡ pick (same_key (key_of p) k) (done p) (find k ps)
+    → find k (insert p ps) ≡ pick (same_key (key_of p) k) (Ok p) (find k ps)
 unfolding find insert
 find_insert k p [] = refl
 find_insert k p (q ∷ qs) = go (same_key (key_of q) (key_of p)) refl (find_insert k p qs)
   where
     go : (b : Bool) → same_key (key_of q) (key_of p) ≡ b
-        → find k (insert p qs) ≡ pick (same_key (key_of p) k) (done p) (find k qs)
+        → find k (insert p qs) ≡ pick (same_key (key_of p) k) (Ok p) (find k qs)
         → find k (pick b (p ∷ qs) (q ∷ insert p qs))
-        ≡ pick (same_key (key_of p) k) (done p) (pick (same_key (key_of q) k) (done q) (find k qs))
+        ≡ pick (same_key (key_of p) k) (Ok p) (pick (same_key (key_of q) k) (Ok q) (find k qs))
     go true s rest =
-        rw (same_eq (key_of q) (key_of p) s) (sym (pick_again (same_key (key_of p) k) (done p) (done q) (find k qs)))
+        rw (same_eq (key_of q) (key_of p) s) (sym (pick_again (same_key (key_of p) k) (Ok p) (Ok q) (find k qs)))
     go false s rest =
         rw rest
-        (pick_apart (same_key (key_of q) k) (same_key (key_of p) k) (done q) (done p) (find k qs)
+        (pick_apart (same_key (key_of q) k) (same_key (key_of p) k) (Ok q) (Ok p) (find k qs)
         (same_apart (key_of q) (key_of p) k s))
 
 -- p takes the place of the one of its key, or is one more
@@ -83,7 +83,7 @@ length_insert p (q ∷ qs) = go (same_key (key_of q) (key_of p)) (is_stored (key
   where
     go : (b s : Bool) → is_stored (key_of p) qs ≡ s → length (insert p qs) ≡ pick s (length qs) (suc (length qs))
         → length (pick b (p ∷ qs) (q ∷ insert p qs))
-        ≡ pick (is_done (pick b (done q) (find (key_of p) qs))) (suc (length qs)) (suc (suc (length qs)))
+        ≡ pick (is_done (pick b (Ok q) (find (key_of p) qs))) (suc (length qs)) (suc (suc (length qs)))
     go true s e rest = refl
     go false true e rest = rw e (ap suc rest)
     go false false e rest = rw e (ap suc rest)
@@ -94,7 +94,7 @@ unfolding find insert
 insert_end p [] e = refl
 insert_end p (q ∷ qs) e = go (same_key (key_of q) (key_of p)) e (insert_end p qs)
   where
-    go : (b : Bool) → is_done (pick b (done q) (find (key_of p) qs)) ≡ false
+    go : (b : Bool) → is_done (pick b (Ok q) (find (key_of p) qs)) ≡ false
         → (is_stored (key_of p) qs ≡ false → insert p qs ≡ qs ++ (p ∷ []))
         → pick b (p ∷ qs) (q ∷ insert p qs) ≡ q ∷ (qs ++ (p ∷ []))
     go true f rest = absurd (not_both true refl f)
@@ -172,12 +172,12 @@ pub perm_find : (k : Key) {ps qs : List Profile} → Perm ps qs → Distinct ps 
 unfolding find
 perm_find k Permᴰ.nil u = refl
 perm_find k (Permᴰ.cons {a = p} {b = q} {l₁ = ps} {l₂ = qs} e d) u =
-    λ i. pick (same_key (key_of (e i)) k) (done (e i)) (perm_find k d u.1 i)
+    λ i. pick (same_key (key_of (e i)) k) (Ok (e i)) (perm_find k d u.1 i)
 perm_find k (Permᴰ.swap {a = p} {b = q} {a' = p'} {b' = q'} {l = ps} e f) u =
     let apart = (apart_cons (key_of p) q ps u.0).0 in
-    pick_apart (same_key (key_of p) k) (same_key (key_of q) k) (done p) (done q) (find k ps)
+    pick_apart (same_key (key_of p) k) (same_key (key_of q) k) (Ok p) (Ok q) (find k ps)
     (λ x y. same_apart (key_of q) (key_of p) k apart y x)
-    ∙ (λ i. pick (same_key (key_of (f i)) k) (done (f i)) (pick (same_key (key_of (e i)) k) (done (e i)) (find k ps)))
+    ∙ (λ i. pick (same_key (key_of (f i)) k) (Ok (f i)) (pick (same_key (key_of (e i)) k) (Ok (e i)) (find k ps)))
 perm_find k (Permᴰ.trans d e) u = perm_find k d u ∙ perm_find k e (perm_distinct d u)
 
 -- inserting stores no key but that of p

@@ -17,7 +17,7 @@ use Rattle.outcome.specs.Answer.{
   pick,
   AnswersFront,
 }
-use Rattle.outcome.specs.Result.{Result, done, refused}
+use Rattle.outcome.specs.Result.{Result, Ok, Err}
 use Rattle.profile.specs.declared.Profile.{Profile}
 use Rattle.profile.specs.Rules.{Class, valid}
 use Rattle.profile.specs.Line.{longest, line_of}
@@ -52,7 +52,7 @@ lookup_checks table d ps =
 -- a result, unless a check fails before: the first that fails decides
 abbrev pub after : {A : Type 0} → List Check → Result A → Result A
 after [] a = a
-after (r unless ok ∷ checks) a = pick ok (after checks a) (refused r)
+after (r unless ok ∷ checks) a = pick ok (after checks a) (Err r)
 
 -- what a device finds
 unfoldable pub lookup_in : List Class → Device → List Profile → Result Profile
@@ -63,12 +63,12 @@ abbrev pub found_in : List Class → List ℕ → List ℕ → ℕ → ℕ → R
 found_in table image country class hertz = lookup_in table (device_of country class hertz) (stored image)
 
 abbrev pub valid_in : List Class → Result Profile → Bool
-valid_in table (done p) = valid table p
-valid_in table (refused r) = false
+valid_in table (Ok p) = valid table p
+valid_in table (Err r) = false
 
 abbrev pub found_line : Result Profile → List ℕ
-found_line (done p) = line_of p
-found_line (refused r) = []
+found_line (Ok p) = line_of p
+found_line (Err r) = []
 
 -- What is asked for must exist; then come the sizes; then something must be found, and keep the rules: only an image
 -- that no run of the library made holds a profile that breaks one (crate package, `NoneBroken`).
@@ -106,8 +106,8 @@ LooksUpByStore image = LooksUp (classes_of image) image
 
 -- the serial is greater than that of the profile that is stored, if any
 abbrev pub newer : Profile → Result Profile → Bool
-newer p (done q) = ltb q.serial p.serial
-newer p (refused r) = true
+newer p (Ok q) = ltb q.serial p.serial
+newer p (Err r) = true
 
 -- the profile is for this device; it is newer than the one of its key; its key is stored or there is room
 abbrev pub put_checks : Device → Profile → List Profile → List Check
@@ -135,7 +135,7 @@ Perm = Permᴰ
 -- common that p is found under its key, and under any other key what was found before; and that qs is, up to order, ps
 -- with p in place of the one of its key, or with p besides.
 pub record Stores (p : Profile) (ps qs : List Profile) : Type 0 where
-  pub finds : (k : Key) → find k qs ≡ pick (same_key (key_of p) k) (done p) (find k ps)
+  pub finds : (k : Key) → find k qs ≡ pick (same_key (key_of p) k) (Ok p) (find k ps)
   pub listed : Perm qs (insert p ps)
 
 -- The slot that a profile of this key takes. Where the key is stored it is the slot that a lookup finds, the first of

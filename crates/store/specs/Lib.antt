@@ -1,4 +1,5 @@
 pub mod Keys
 pub mod Stored
+pub mod Slots
 pub mod Calls
 pub mod Reached

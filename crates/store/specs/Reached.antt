@@ -5,7 +5,7 @@
 use Rattle.std.specs.Prelude.{◌≡◌, true, List, [], ◌∷◌, ◌++◌, ℕ, ◌≤◌, ◌<◌, T, eqb, length, replicate, drop}
 use Rattle.outcome.specs.Answer.{pick}
 use Rattle.profile.specs.declared.Profile.{Profile}
-use Rattle.outcome.specs.Result.{done}
+use Rattle.outcome.specs.Result.{Ok}
 use Rattle.profile.specs.Rules.{Class, valid}
 use Rattle.store.specs.declared.Key.{Key}
 use Rattle.store.specs.declared.Device.{Device}
@@ -107,7 +107,7 @@ pub record Holds (table : List Class) (calls : List Call) (ps : List Profile) : 
   pub fits : length ps ≤ capacity
   pub as_map : (k : Key) → find k ps ≡ find k (model [] calls)
   pub listed : Perm ps (model [] calls)
-  pub entered : (classes : List Class) (d : Device) (p : Profile) → lookup_in classes d ps ≡ done p
+  pub entered : (classes : List Class) (d : Device) (p : Profile) → lookup_in classes d ps ≡ Ok p
       → (key_of p ≡ device_key d) × Entered table [] calls ps (device_key d) p
 
 abbrev pub ReachedHold : Type 0

@@ -4,7 +4,7 @@
 -- Assumes nothing.
 use Rattle.std.specs.Prelude.{◌≡◌, Bool, true, false, ◌&&◌, not, List, [], ◌∷◌, ◌++◌, ℕ, zero, suc, ◌+◌, ◌*◌, eqb, get_or, take, drop, set}
 use Rattle.outcome.specs.Answer.{not_stored, pick}
-use Rattle.outcome.specs.Result.{Result, done, refused}
+use Rattle.outcome.specs.Result.{Result, Ok, Err}
 use Rattle.profile.specs.declared.Profile.{Profile}
 use Rattle.profile.specs.Rules.{Class}
 use Rattle.profile.specs.Table.{table_size, table_of}
@@ -81,12 +81,12 @@ stored image = profiles_in (slots_of capacity image)
 
 -- the first profile of the key
 unfoldable pub find : Key → List Profile → Result Profile
-find k [] = refused not_stored
-find k (p ∷ ps) = pick (same_key (key_of p) k) (done p) (find k ps)
+find k [] = Err not_stored
+find k (p ∷ ps) = pick (same_key (key_of p) k) (Ok p) (find k ps)
 
 abbrev pub is_done : {A : Type 0} → Result A → Bool
-is_done (done a) = true
-is_done (refused r) = false
+is_done (Ok a) = true
+is_done (Err r) = false
 
 abbrev pub is_stored : Key → List Profile → Bool
 is_stored k ps = is_done (find k ps)

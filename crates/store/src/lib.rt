@@ -4,23 +4,21 @@
 
 pub mod slots;
 
-ghost use Rattle.std.specs.Prelude.{◌≡◌, ◌+◌, ◌*◌, ◌≤◌, length};
+ghost use Rattle.std.specs.Prelude.{◌≡◌, ◌+◌, ◌*◌, ◌≤◌, ℕ, length};
+ghost use Rattle.outcome.specs.Result.{number_in, length_in};
 ghost use Rattle.profile.specs.Rules.{classes};
 ghost use Rattle.profile.specs.Table.{row_size, rows_from, table_of};
-ghost use Rattle.image.specs.Image.{profile_size};
-ghost use Rattle.store.specs.Keys.{key_of, device_of, device_key, same_key, has_class, device_ok};
+ghost use Rattle.store.specs.Keys.{key_of, device_of, device_key, has_class, device_ok};
 ghost use Rattle.store.specs.Stored.{slot_of, classes_of};
 ghost use Rattle.store.specs.Calls.{LooksUpByStore, Puts};
 
 use image::write::has_image;
 use image::{PROFILE_SIZE, write_profile_line};
-use outcome::{
-    BAD_DEVICE, BAD_PROFILE, BAD_SIZE, NOT_STORED, OLD_SERIAL, OTHER_DEVICE, STORE_FULL,
-};
+use outcome::Refusal;
 use profile::rules::{country_obeys, is_nominal_hertz};
 use profile::table::{FIRST_ROW, ROW_SIZE, TABLE_SIZE, rows_used};
 use profile::{Country, LONGEST, Profile};
-use slots::{find_free, find_key, profile_at, write_slot};
+use slots::{StoreImage, write_slot};
 use words::word_at;
 
 // How many profiles a store holds.
@@ -33,7 +31,7 @@ pub const SLOTS_SIZE: usize = CAPACITY * PROFILE_SIZE;
 pub const STORE_SIZE: usize = SLOTS_SIZE + TABLE_SIZE;
 
 // What a profile is stored under.
-#[derive(Clone, Copy)]
+#[derive(Clone, Copy, PartialEq, Eq)]
 pub struct Key {
     pub country: Country,
     pub class: u32,
@@ -48,70 +46,55 @@ pub struct Device {
     pub hertz: u32,
 }
 
-fn key_of(profile: Profile) -> Key
-    ensures { result ≡ key_of profile }
-{
-    let country = profile.country;
-    Key {
-        country: country,
-        class: profile.class as u32,
-        hertz: profile.hertz,
+impl Key {
+    // What the profile is stored under.
+    fn of(profile: Profile) -> Key
+        ensures { result ≡ key_of profile }
+    {
+        Key {
+            country: profile.country,
+            class: profile.class as u32,
+            hertz: profile.hertz,
+        }
     }
 }
 
-fn same_key(a: Key, b: Key) -> bool
-    ensures { result ≡ same_key a b }
-{
-    if a.country.first != b.country.first {
-        return false;
+impl Device {
+    // What a profile of the device is stored under.
+    pub fn key(self) -> Key
+        ensures { result ≡ device_key self }
+    {
+        Key {
+            country: self.country,
+            class: self.class,
+            hertz: self.hertz,
+        }
     }
-    if a.country.second != b.country.second {
-        return false;
-    }
-    if a.class != b.class {
-        return false;
-    }
-    if a.hertz != b.hertz {
-        return false;
-    }
-    true
 }
 
 // A, B, C or D, the built-in classes.
 fn is_class(class: u32) -> bool
     ensures { result ≡ has_class classes class }
 {
-    if class == 65 {
-        return true;
-    }
-    if class == 66 {
-        return true;
-    }
-    if class == 67 {
-        return true;
-    }
-    if class == 68 {
-        return true;
-    }
-    false
+    matches!(class, 65..=68)
 }
 
 // The letter is that of a class in the first rows of a table.
+#[tactic(auto, using(profile::proofs::TableLaws::row_by_row))]
 fn is_class_in_rows(table: &[u8], rows: usize, class: u32) -> bool
     requires { 4 + row_size * rows ≤ length table.now }
     ensures { result ≡ has_class (rows_from table.now 0 rows) class }
 {
-    let mut i: usize = 0;
-    while i < rows {
+    for i in 0..rows {
         if word_at(table, FIRST_ROW + ROW_SIZE * i) == class {
             return true;
         }
-        i += 1;
     }
     false
 }
 
 // The letter is that of a class of the table.
+#[tactic(auto, using(profile::proofs::TableLaws::meanings))]
 fn is_class_in(table: &[u8], class: u32) -> bool
     ensures { result ≡ has_class (table_of table.now) class }
 {
@@ -123,41 +106,17 @@ fn is_class_in(table: &[u8], class: u32) -> bool
 }
 
 // The device is set to two letters A to Z, to a class of the table, and to 50 or 60 hertz.
+#[tactic(auto, unfolding(crate::specs::Keys::device_ok))]
 fn is_setting(table: &[u8], device: Device) -> bool
     ensures { result ≡ device_ok (table_of table.now) device }
 {
-    let country = device.country;
-    if !country_obeys(country) {
-        return false;
-    }
-    if !is_class_in(table, device.class) {
-        return false;
-    }
-    is_nominal_hertz(device.hertz)
-}
-
-// What a device's profile is stored under.
-pub fn device_key(device: Device) -> Key
-    ensures { result ≡ device_key device }
-{
-    let country = device.country;
-    Key {
-        country: country,
-        class: device.class,
-        hertz: device.hertz,
-    }
-}
-
-// The profile is for the device.
-fn is_for(profile: Profile, device: Device) -> bool
-    ensures { result ≡ same_key (key_of profile) (device_key device) }
-{
-    same_key(key_of(profile), device_key(device))
+    country_obeys(device.country)
+        && is_class_in(table, device.class)
+        && is_nominal_hertz(device.hertz)
 }
 
 // Whether one slot of an image is used: its first byte is not 0.
-pub fn is_used(slot: &[u8]) -> bool
-    requires { length slot.now ≡ profile_size }
+pub fn is_used(slot: &[u8; PROFILE_SIZE]) -> bool
     ensures { result ≡ (slot_of slot.now).used }
 {
     slot[0] != 0
@@ -168,87 +127,83 @@ pub fn device_of(country: &[u8], class: u32, hertz: u32) -> Device
     requires { length country.now ≡ 2 }
     ensures { result ≡ device_of country.now class hertz }
 {
-    let letters = Country {
+    let country = Country {
         first: country[0],
         second: country[1],
     };
     Device {
-        country: letters,
-        class: class,
-        hertz: hertz,
+        country,
+        class,
+        hertz,
     }
 }
 
 // The device is set to two letters A to Z, to a class of the store's table, and to 50 or 60 hertz. A store of another
 // size counts as one with the built-in classes.
+#[tactic(auto, using(crate::proofs::ClassLaws::no_table, crate::proofs::ClassLaws::behind_slots))]
 pub fn device_ok(store: &[u8], device: Device) -> bool
     ensures { result ≡ device_ok (classes_of store.now) device }
 {
     if store.len() < SLOTS_SIZE {
-        return is_setting(&store[..0], device);
+        return is_setting(&[], device);
     }
     is_setting(&store[SLOTS_SIZE..], device)
 }
 
-// Writes the line that a store has for a country, class and hertz.
+// Writes the line that a store has for a country, class and hertz, and returns its length.
 pub fn lookup(
     store: &[u8],
     country: &[u8],
     class: u32,
     hertz: u32,
     out: &mut [u8],
-    length: &mut usize,
-) -> u8
-    ensures { LooksUpByStore store.now country.now class hertz
-        out.old length.old result out.new length.new }
+) -> Result<usize, Refusal>
+    ensures { (before : ℕ) → LooksUpByStore store.now country.now class hertz
+        out.old before (number_in result) out.new (length_in before result) }
 {
     if country.len() != 2 {
-        return BAD_DEVICE;
+        return Err(Refusal::BadDevice);
     }
     let device = device_of(country, class, hertz);
     if !device_ok(store, device) {
-        return BAD_DEVICE;
+        return Err(Refusal::BadDevice);
     }
     if store.len() != STORE_SIZE {
-        return BAD_SIZE;
+        return Err(Refusal::BadSize);
     }
     if out.len() != LONGEST {
-        return BAD_SIZE;
+        return Err(Refusal::BadSize);
     }
-    let i = find_key(store, device_key(device));
-    if i >= CAPACITY {
-        return NOT_STORED;
-    }
-    write_profile_line(&store[SLOTS_SIZE..], profile_at(store, i), out, length)
+    let store = StoreImage { bytes: store };
+    let slot = store.find_key(device.key()).ok_or(Refusal::NotStored)?;
+    write_profile_line(store.table(), store.profile_at(slot), out)
 }
 
 // Stores a profile of the device's own country, class and hertz, in place of an older one of these or in a free slot.
 // Callers ask for the profile's rules and `device_ok` first; here it is enough that an image can mean the profile.
-pub fn put(store: &mut [u8], profile: Profile, device: Device) -> u8
-    ensures { Puts device profile store.old result store.new }
+pub fn put(store: &mut [u8], profile: Profile, device: Device) -> Result<(), Refusal>
+    ensures { Puts device profile store.old (number_in result) store.new }
 {
     if store.len() != STORE_SIZE {
-        return BAD_SIZE;
+        return Err(Refusal::BadSize);
     }
     if !has_image(profile) {
-        return BAD_PROFILE;
+        return Err(Refusal::BadProfile);
     }
-    if !is_for(profile, device) {
-        return OTHER_DEVICE;
+    let key = Key::of(profile);
+    if key != device.key() {
+        return Err(Refusal::OtherDevice);
     }
-    let held = find_key(store, key_of(profile));
-    if held < CAPACITY {
-        let old = profile_at(store, held);
-        if profile.serial <= old.serial {
-            return OLD_SERIAL;
+    let image = StoreImage { bytes: store };
+    let slot = match image.find_key(key) {
+        Some(held) => {
+            if profile.serial <= image.profile_at(held).serial {
+                return Err(Refusal::OldSerial);
+            }
+            held
         }
-        write_slot(store, held, profile);
-        return 0;
-    }
-    let free = find_free(store);
-    if free >= CAPACITY {
-        return STORE_FULL;
-    }
-    write_slot(store, free, profile);
-    0
+        None => image.find_free().ok_or(Refusal::StoreFull)?,
+    };
+    write_slot(store, slot, profile);
+    Ok(())
 }

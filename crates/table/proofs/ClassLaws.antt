@@ -9,11 +9,12 @@ use native.Mathlib.Omega.{arith}
 use lib.Dec.{leb, ltb}
 use borrow.Author.Tests.{leb-true, ltb-true}
 use Rattle.outcome.specs.Answer.{bad_profile, pick}
-use Rattle.outcome.specs.Result.{done, refused}
-use Rattle.profile.specs.Rules.{Range, ◌to◌, contains, Class, class_in}
+use Rattle.outcome.specs.Result.{Ok, Err}
+use Rattle.profile.specs.Rules.{Range, ◌to◌, contains, Class, class_in, low, high}
 use Rattle.profile.proofs.RuleLaws.{and_first, and_rest}
-use Rattle.table.specs.File.{low, high, sound_row, follows, sound_rows}
-use Rattle.table.specs.Theorems.{In, ClassHeld}
+use Rattle.table.specs.File.{sound_row, follows, sound_rows}
+use Rattle.outcome.specs.Lists.{In}
+use Rattle.table.specs.Theorems.{ClassHeld}
 use Rattle.table.proofs.RowLaws.{bounds, first_sound}
 use Rattle.table.proofs.TextLaws.{rest_sound}
 
@@ -23,14 +24,14 @@ pub class_row : ClassHeld
 class_row [] volts letter e = let z : ◌≡◌ {A = ℕ} 0 1 = cc in absurd (omega arith)
 class_row (c ∷ cs) volts letter e = go (contains c.volts volts) refl e (class_row cs volts letter)
   where
-    go : (b : Bool) → contains c.volts volts ≡ b → pick b (done c.letter) (class_in cs volts) ≡ done letter
-        → (class_in cs volts ≡ done letter → (d : Class) × In d cs × (contains d.volts volts ≡ true) × (d.letter ≡ letter))
+    go : (b : Bool) → contains c.volts volts ≡ b → pick b (Ok c.letter) (class_in cs volts) ≡ Ok letter
+        → (class_in cs volts ≡ Ok letter → (d : Class) × In d cs × (contains d.volts volts ≡ true) × (d.letter ≡ letter))
         → (d : Class) × In d (c ∷ cs) × (contains d.volts volts ≡ true) × (d.letter ≡ letter)
     go true here e later = (c, inl refl, here, (cc))
     go false here e later = let found = later e in (found.0, inr found.1, found.2, found.3)
 
 pub no_class : (table : List Class) (volts : ℕ) → ((c : Class) → In c table → contains c.volts volts ≡ false)
-    → class_in table volts ≡ refused bad_profile
+    → class_in table volts ≡ Err bad_profile
 no_class [] volts none = refl
 no_class (c ∷ cs) volts none = rw (none c (inl refl)) (no_class cs volts (λ d m. none d (inr m)))
 
@@ -94,14 +95,14 @@ one_letter (b ∷ bs) e c d (inr m) (inr n) same = one_letter bs (rest_sound b b
 
 -- where some row holds volts, some class is found
 pub some_class : (table : List Class) (c : Class) → In c table → (volts : ℕ) → contains c.volts volts ≡ true
-    → (letter : ℕ) × (class_in table volts ≡ done letter)
+    → (letter : ℕ) × (class_in table volts ≡ Ok letter)
 some_class [] c m volts h = absurd m
 some_class (b ∷ bs) c (inl p) volts h =
     let here : contains b.volts volts ≡ true = rw p at h in
     (b.letter, rw here)
 some_class (b ∷ bs) c (inr m) volts h = first (contains b.volts volts) (some_class bs c m volts h)
   where
-    first : (t : Bool) → (letter : ℕ) × (class_in bs volts ≡ done letter)
-        → (letter : ℕ) × (pick t (done b.letter) (class_in bs volts) ≡ done letter)
+    first : (t : Bool) → (letter : ℕ) × (class_in bs volts ≡ Ok letter)
+        → (letter : ℕ) × (pick t (Ok b.letter) (class_in bs volts) ≡ Ok letter)
     first true later = (b.letter, refl)
     first false later = later

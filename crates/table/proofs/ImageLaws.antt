@@ -11,10 +11,10 @@ use lib.Seq.{sets, sets-eq, take_at, drop_at, drop-drop, get_or-append-add}
 use Rattle.words.specs.Words.{number, word_at, word, Small}
 use Rattle.words.proofs.WordLaws.{word_again, word_small}
 use Rattle.decimal.specs.Decimal.{Appended}
-use Rattle.profile.specs.Rules.{◌to◌, Class, class, classes}
+use Rattle.profile.specs.Rules.{◌to◌, Class, class, classes, low, high}
 use Rattle.profile.specs.Table.{most_rows, row_size, table_size, rows_used, row_at, rows_from, table_of}
 use Rattle.profile.proofs.TableLaws.{right_size, few_used, no_rows, some_rows}
-use Rattle.table.specs.File.{low, high, sound_rows, rows_image, table_image}
+use Rattle.table.specs.File.{sound_rows, rows_image, table_image}
 use Rattle.table.specs.Theorems.{RowsFit, Fits}
 use Rattle.table.proofs.RowLaws.{bounds, first_sound}
 use Rattle.table.proofs.TextLaws.{row_parts, rest_sound}

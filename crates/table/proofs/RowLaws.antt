@@ -9,23 +9,11 @@ use lib.ListN.{length, take, drop}
 use borrow.Author.Tests.{le-leb, leb-true, lt-ltb, ltb-true}
 use Rattle.outcome.specs.Answer.{bad_table, pick}
 use Rattle.outcome.specs.Lists.{same}
-use Rattle.outcome.specs.Result.{Result, done, refused}
-use Rattle.profile.specs.Rules.{◌to◌, contains, letters, Class}
+use Rattle.outcome.specs.Result.{Result, Ok, Err}
+use Rattle.profile.specs.Rules.{◌to◌, contains, letters, Class, low, high}
 use Rattle.profile.specs.Table.{most_rows}
 use Rattle.profile.proofs.RuleLaws.{and_first, and_rest, inside}
-use Rattle.table.specs.File.{
-  low,
-  high,
-  sound_row,
-  follows,
-  sound_rows,
-  sound_table,
-  row_text,
-  table_text,
-  row_in,
-  rows_in,
-  read_table,
-}
+use Rattle.table.specs.File.{sound_row, follows, sound_rows, sound_table, row_text, table_text, row_in, rows_in, read_table}
 use Rattle.table.specs.InnerRows.{before_all, fits_after, begins, and_then, rows_after}
 
 -- ---- the rules, row after row
@@ -146,8 +134,8 @@ same_append (x ∷ xs) ys (z ∷ zs) =
 
 -- the tests of a row and those of the rows behind it
 together : (fit text fits texts : Bool) (c : Class) (cs : List Class)
-    → pick (fit && text) (and_then c (pick (fits && texts) (done cs) (refused bad_table))) (refused bad_table)
-    ≡ pick ((fit && fits) && (text && texts)) (done (c ∷ cs)) (refused bad_table)
+    → pick (fit && text) (and_then c (pick (fits && texts) (Ok cs) (Err bad_table))) (Err bad_table)
+    ≡ pick ((fit && fits) && (text && texts)) (Ok (c ∷ cs)) (Err bad_table)
 together false text fits texts c cs = refl
 together true false true texts c cs = refl
 together true false false texts c cs = refl
@@ -157,8 +145,8 @@ together true true false texts c cs = refl
 
 row_after_row : (n : ℕ) (before : Class) (bytes : List ℕ)
     → rows_after n before bytes
-    ≡ pick (following before (rows_in n bytes) && same (table_text (rows_in n bytes)) bytes) (done (rows_in n bytes))
-    (refused bad_table)
+    ≡ pick (following before (rows_in n bytes) && same (table_text (rows_in n bytes)) bytes) (Ok (rows_in n bytes))
+    (Err bad_table)
 unfolding rows_after following rows_in table_text same begins
 row_after_row zero before [] = refl
 row_after_row zero before (b ∷ bytes) = refl
@@ -172,9 +160,9 @@ row_after_row (suc n) before (b ∷ bytes) =
     let fit = fits_after before c in
     let fits = following c cs in
     let first = same text (take (length text) here) in
-    ap (λ (r : Result (List Class)). pick (fit && first) (and_then c r) (refused bad_table)) (row_after_row n c later)
+    ap (λ (r : Result (List Class)). pick (fit && first) (and_then c r) (Err bad_table)) (row_after_row n c later)
     ∙ together fit first fits (same (table_text cs) later) c cs
-    ∙ ap (λ (b : Bool). pick ((fit && fits) && b) (done (c ∷ cs)) (refused bad_table))
+    ∙ ap (λ (b : Bool). pick ((fit && fits) && b) (Ok (c ∷ cs)) (Err bad_table))
     (sym (same_append text (table_text cs) here))
 
 few_rows : (n : ℕ) (bytes : List ℕ) → length (rows_in n bytes) ≤ n
@@ -203,11 +191,11 @@ whole_file b bytes =
     let file : List ℕ = b ∷ bytes in
     let rows : List Class = rows_in most_rows file in
     let again = same (table_text rows) file in
-    one_test (contains (1 to most_rows) (length rows)) (sound_rows rows) again (done rows) (refused bad_table)
+    one_test (contains (1 to most_rows) (length rows)) (sound_rows rows) again (Ok rows) (Err bad_table)
     (inside 1 most_rows (length rows) (some_row 25 b bytes) (few_rows most_rows file))
-    ∙ ap (λ (s : Bool). pick (s && again) (done rows) (refused bad_table)) (sound_rows_lem rows)
+    ∙ ap (λ (s : Bool). pick (s && again) (Ok rows) (Err bad_table)) (sound_rows_lem rows)
     ∙ sym (row_after_row most_rows before_all file)
 
-pub empty_file : read_table [] ≡ refused bad_table
+pub empty_file : read_table [] ≡ Err bad_table
 unfolding read_table rows_in
 empty_file = refl

@@ -1,40 +1,44 @@
 -- A store in which nothing is stored, and a table behind its slots. Assumes nothing.
 use mathlib.Core.Path.{◌≡◌, refl, ◌∙◌, sym, ap}
-use mathlib.Core.Bool.{true, false, false≢true}
+use mathlib.Core.Bool.{Bool, true, false, false≢true, not, ◌&&◌}
 use mathlib.Core.List.{List, [], ◌∷◌, ◌++◌, append-nil}
-use Prim.Native.Nat.{ℕ, zero, suc, ◌+◌, ◌-◌, ◌*◌, ◌≤◌, ◌<◌}
+use Prim.Native.Nat.{ℕ, zero, suc, ◌+◌, ◌-◌, ◌*◌, ◌≤◌}
 use native.Mathlib.Omega.{arith}
 use borrow.Rule.Slice.PartMut.{put_mid}
 use lib.ListN.{length, take, drop, length-append, length-drop, drop_of_length-le}
 use lib.Seq.{take_at, drop_at, take-add, length-take-le}
 use Rattle.profile.specs.declared.Profile.{Profile}
 use Rattle.image.specs.Image.{profile_size}
-use Rattle.store.specs.Stored.{capacity, slots_size, store_size, Slot, slot_of, slots_of, slot_bytes, profiles_in, stored}
-use Rattle.store.proofs.PlaceLaws.{slots_next, slots_past}
+use Rattle.store.specs.Stored.{capacity, slots_size, store_size, Slot, slot_of, slots_of, profiles_in, stored}
+use Rattle.store.specs.Slots.{slot_parts}
+use Rattle.store.proofs.PlaceLaws.{parts_mean}
+use Rattle.std.specs.List.{list_all}
+use Rattle.std.specs.Prelude.{map}
+use Rattle.outcome.specs.Answer.{pick}
 use Rattle.table.specs.File.{is_empty, with_table}
 
 pub none : (ps : List Profile) → is_empty ps ≡ true → ps ≡ []
 none [] e = refl
 none (p ∷ ps) e = absurd (false≢true e)
 
--- ---- slot after slot
+-- no slot is used
+all_unused : (parts : List (List ℕ)) → list_all (λ b. not (slot_of b).used) parts ≡ is_empty (profiles_in (map slot_of parts))
+unfolding profiles_in
+all_unused [] = refl
+all_unused (b ∷ parts) = go (slot_of b).used (all_unused parts)
+  where
+    go : (u : Bool) → list_all (λ b. not (slot_of b).used) parts ≡ is_empty (profiles_in (map slot_of parts))
+        → (not u && list_all (λ b. not (slot_of b).used) parts)
+        ≡ is_empty (pick u ((slot_of b).profile ∷ profiles_in (map slot_of parts)) (profiles_in (map slot_of parts)))
+    go true e = refl
+    go false e = e
 
--- no slot before the place is used
-abbrev pub Unused : List ℕ → ℕ → Type 0
-Unused image i = is_empty (profiles_in (drop i (slots_of capacity image))) ≡ is_empty (stored image)
-
-module _ (image : List ℕ) (i : ℕ) (before : Unused image i) where
-  pub used_here : i < capacity → (slot_of (slot_bytes i image)).used ≡ true → false ≡ is_empty (stored image)
-  unfolding profiles_in
-  used_here h e = rw (slots_next image i h, e) at before
-
-  pub unused_more : i < capacity → (slot_of (slot_bytes i image)).used ≡ false → Unused image (i + 1)
-  unfolding profiles_in
-  unused_more h e = rw (slots_next image i h, e) at before
-
-  pub unused_all : capacity ≤ i → true ≡ is_empty (stored image)
-  unfolding profiles_in
-  unused_all h = rw (slots_past image i h) at before
+pub none_used : (image : List ℕ) {parts : List (List ℕ)} → parts ≡ slot_parts capacity image
+    → list_all (λ b. not (slot_of b).used) parts ≡ is_empty (stored image)
+none_used image whole =
+    ap (list_all (λ b. not (slot_of b).used)) whole
+    ∙ all_unused (slot_parts capacity image)
+    ∙ ap (λ (ss : List Slot). is_empty (profiles_in ss)) (parts_mean capacity image)
 
 -- ---- what stands behind the slots is no part of them
 

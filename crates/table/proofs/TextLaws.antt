@@ -8,10 +8,10 @@ use lib.ListN.{length, drop}
 use lib.Seq.{drop-append_seam}
 use Rattle.decimal.specs.Decimal.{decimal, leading_number, after_number}
 use Rattle.decimal.proofs.Decimal.{number_before, after_before}
-use Rattle.profile.specs.Rules.{Range, ◌to◌, Class, class}
+use Rattle.profile.specs.Rules.{Range, ◌to◌, Class, class, low, high}
 use Rattle.profile.specs.Line.{comma, line_feed}
 use Rattle.profile.proofs.RuleLaws.{and_rest}
-use Rattle.table.specs.File.{low, high, sound_row, follows, sound_rows, row_text, table_text, row_in, rows_in}
+use Rattle.table.specs.File.{sound_row, follows, sound_rows, row_text, table_text, row_in, rows_in}
 use Rattle.table.proofs.RowLaws.{bounds, first_sound}
 
 -- a row is its letter and its numbers

@@ -10,9 +10,10 @@ use lib.Seq.{length-take-le}
 use borrow.Author.Tests.{eqb-true, ne_eqb}
 use Rattle.outcome.specs.Answer.{bad_size, store_in_use, ◌unless◌, first_refusal}
 use Rattle.outcome.specs.Lists.{same}
-use Rattle.outcome.specs.Result.{Result, done, refused, refusal_in}
+use Rattle.outcome.specs.Result.{Ok, refusal_in}
 use Rattle.outcome.proofs.Checks.{passed, both_passed}
 use Rattle.outcome.proofs.Lists.{same_refl, same_equal}
+use Rattle.outcome.proofs.Results.{result_done}
 use Rattle.profile.specs.declared.Profile.{Profile}
 use Rattle.profile.specs.Rules.{contains, Class, valid}
 use Rattle.profile.specs.Table.{most_rows, table_size, rows_used, table_of}
@@ -32,22 +33,8 @@ use Rattle.table.specs.File.{
   load_table_checks,
   with_table,
 }
-use Rattle.table.specs.Theorems.{
-  In,
-  ReadsText,
-  TextRead,
-  ZerosBuiltIn,
-  TableAgain,
-  SoundFits,
-  ImageFits,
-  ReadMeans,
-  ClassHeld,
-  HeldClass,
-  OneRow,
-  GapRefused,
-  LoadedTable,
-  TableStays,
-}
+use Rattle.outcome.specs.Lists.{In}
+use Rattle.table.specs.Theorems.{ReadsText, TextRead, ZerosBuiltIn, TableAgain, SoundFits, ImageFits, ReadMeans, ClassHeld, HeldClass, OneRow, GapRefused, LoadedTable, TableStays}
 use Rattle.table.proofs.RowLaws.{sized, rows_sound}
 use Rattle.table.proofs.TextLaws.{rows_again}
 use Rattle.table.proofs.ImageLaws.{image_size, table_again, sound_small, read_fits}
@@ -64,7 +51,7 @@ reads_text rows e =
     let sound : T (sound_table (rows_in most_rows file)) = test _ (ap sound_table found ∙ e) in
     let again : same (table_text (rows_in most_rows file)) file ≡ true =
     ap (λ (cs : List Class). same (table_text cs) file) found ∙ same_refl file in
-    passed_done (read_table_checks file) (rows_in most_rows file) (sound, (test _ again, tt)) ∙ ap done found
+    passed_done (read_table_checks file) (rows_in most_rows file) (sound, (test _ again, tt)) ∙ ap Ok found
 
 pub text_read : TextRead
 unfolding read_table
@@ -89,18 +76,12 @@ sound_fits rows e =
 pub image_fits : ImageFits
 image_fits = read_fits
 
--- a result that refuses nothing
-result_done : (r : Result (List Class)) → first_refusal (refusal_in r) ≡ 0 → (rows : List Class) × (r ≡ done rows)
-result_done (done rows) e = (rows, refl)
-result_done (refused k) e = absurd (passed (refusal_in {A = List Class} (refused k)) e).0
-
--- what the bytes of a file that was read mean
 pub read_again : (file : List ℕ) → first_refusal (refusal_in (read_table file)) ≡ 0
-    → (length (image_in (read_table file)) ≡ table_size) × (read_table file ≡ done (table_of (image_in (read_table file))))
+    → (length (image_in (read_table file)) ≡ table_size) × (read_table file ≡ Ok (table_of (image_in (read_table file))))
 read_again file e =
     let found = result_done (read_table file) e in
     let again = table_means found.0 (sound_fits found.0 (text_read file found.0 found.1).0) in
-    rw found.1 (again.0, ap done (sym again.1))
+    rw found.1 (again.0, ap Ok (sym again.1))
 
 pub read_means : ReadMeans
 read_means file old answer new r e =
@@ -122,7 +103,7 @@ held_class table e c m volts h =
     let some = some_class table c m volts h in
     let found = class_row table volts some.0 some.1 in
     let it : found.0 ≡ c = only found.0 found.1 found.2 in
-    (some.1 ∙ ap done (sym found.3 ∙ ap (λ (x : Class). x.letter) it), only)
+    (some.1 ∙ ap Ok (sym found.3 ∙ ap (λ (x : Class). x.letter) it), only)
 
 pub one_row : OneRow
 one_row table e c d m n same = one_letter table (rows_sound table e) c d m n same

@@ -5,22 +5,16 @@
 use Rattle.std.specs.Prelude.{Bool, true, false, ◌&&◌, List, [], ◌∷◌, ◌++◌, ℕ, zero, suc, ◌-◌, ◌*◌, eqb, leb, ltb, length, get_or, take, drop, replicate}
 use Rattle.outcome.specs.Answer.{bad_size, bad_table, store_in_use, Check, ◌unless◌, Answers}
 use Rattle.outcome.specs.Lists.{same}
-use Rattle.outcome.specs.Result.{Result, done, refused, answer, refusal_in}
+use Rattle.outcome.specs.Result.{Result, Ok, Err, answer, refusal_in}
 use Rattle.decimal.specs.Decimal.{decimal, leading_number, after_number}
 use Rattle.words.specs.Words.{word}
 use Rattle.profile.specs.declared.Profile.{Profile}
-use Rattle.profile.specs.Rules.{Range, ◌to◌, contains, letters, Class, class}
+use Rattle.profile.specs.Rules.{◌to◌, contains, low, high, letters, Class, class}
 use Rattle.profile.specs.Table.{most_rows, row_size, table_size}
 use Rattle.profile.specs.Line.{comma, line_feed}
 use Rattle.store.specs.Stored.{slots_size, store_size, stored}
 
 -- ---- the rules
-
-abbrev pub low : Range → ℕ
-low (l to h) = l
-
-abbrev pub high : Range → ℕ
-high (l to h) = h
 
 -- a row by itself: a letter A to Z; low at most high, both within 100 to 1000
 abbrev pub sound_row : Class → Bool
@@ -88,8 +82,8 @@ table_image rows =
 
 -- of what was read, where something was
 abbrev pub image_in : Result (List Class) → List ℕ
-image_in (done rows) = table_image rows
-image_in (refused r) = []
+image_in (Ok rows) = table_image rows
+image_in (Err r) = []
 
 -- ---- the entries
 

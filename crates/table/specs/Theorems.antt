@@ -1,31 +1,27 @@
 -- What class tables are (document 02, M-108), of every program that meets the contracts. The proofs stand in
 -- proofs/Theorems.antt. That every table that is reached is sound stands in crate package (`ImageReached`).
 -- Assumes nothing.
-use Rattle.std.specs.Prelude.{◌≡◌, true, false, ◌⊎◌, List, [], ◌∷◌, ℕ, ◌≤◌, ◌<◌, length, replicate, take, get_or}
+use Rattle.std.specs.Prelude.{◌≡◌, true, false, List, [], ◌∷◌, ℕ, ◌≤◌, ◌<◌, length, replicate, take, get_or}
 use Rattle.outcome.specs.Answer.{bad_profile}
-use Rattle.outcome.specs.Result.{done, refused}
+use Rattle.outcome.specs.Lists.{In}
+use Rattle.outcome.specs.Result.{Ok, Err}
 use Rattle.profile.specs.declared.Profile.{Profile}
-use Rattle.profile.specs.Rules.{contains, Class, classes, class_in, valid}
+use Rattle.profile.specs.Rules.{contains, low, high, Class, classes, class_in, valid}
 use Rattle.words.specs.Words.{Small}
 use Rattle.profile.specs.Table.{most_rows, table_size, table_of}
 use Rattle.profile.specs.Line.{read_line}
 use Rattle.store.specs.Stored.{slots_size, store_size, classes_of, stored}
-use Rattle.table.specs.File.{low, high, sound_table, table_text, read_table, table_image, ReadsTable, LoadsTable}
-
--- the row is one of these
-abbrev pub In : Class → List Class → Type 0
-In c [] = ⊥
-In c (d ∷ ds) = (c ≡ d) ⊎ In c ds
+use Rattle.table.specs.File.{sound_table, table_text, read_table, table_image, ReadsTable, LoadsTable}
 
 -- ---- files
 
 -- exactly the texts of sound tables are read, and each as the table whose text it is
 abbrev pub ReadsText : Type 0
-ReadsText = (rows : List Class) → sound_table rows ≡ true → read_table (table_text rows) ≡ done rows
+ReadsText = (rows : List Class) → sound_table rows ≡ true → read_table (table_text rows) ≡ Ok rows
 
 abbrev pub TextRead : Type 0
 TextRead =
-    (file : List ℕ) (rows : List Class) → read_table file ≡ done rows
+    (file : List ℕ) (rows : List Class) → read_table file ≡ Ok rows
     → (sound_table rows ≡ true) × (table_text rows ≡ file)
 
 -- ---- images
@@ -68,7 +64,7 @@ ReadMeans =
 -- volts have a class exactly where a row holds them
 abbrev pub ClassHeld : Type 0
 ClassHeld =
-    (table : List Class) (volts letter : ℕ) → class_in table volts ≡ done letter
+    (table : List Class) (volts letter : ℕ) → class_in table volts ≡ Ok letter
     → (c : Class) × In c table × (contains c.volts volts ≡ true) × (c.letter ≡ letter)
 
 -- and under a sound table that row is the only one, so that its letter is the class
@@ -76,7 +72,7 @@ abbrev pub HeldClass : Type 0
 HeldClass =
     (table : List Class) → sound_table table ≡ true → (c : Class) → In c table → (volts : ℕ)
     → contains c.volts volts ≡ true
-    → (class_in table volts ≡ done c.letter)
+    → (class_in table volts ≡ Ok c.letter)
     × ((d : Class) → In d table → contains d.volts volts ≡ true → d ≡ c)
 
 -- no two rows of a sound table have one letter
@@ -88,9 +84,9 @@ OneRow =
 abbrev pub GapRefused : Type 0
 GapRefused =
     (table : List Class) (volts : ℕ) → ((c : Class) → In c table → contains c.volts volts ≡ false)
-    → (class_in table volts ≡ refused bad_profile)
+    → (class_in table volts ≡ Err bad_profile)
     × ((p : Profile) → p.volts ≡ volts → valid table p ≡ false)
-    × ((line : List ℕ) (p : Profile) → read_line table line ≡ done p → p.volts ≡ volts → ⊥)
+    × ((line : List ℕ) (p : Profile) → read_line table line ≡ Ok p → p.volts ≡ volts → ⊥)
 
 -- ---- stores
 
@@ -100,7 +96,7 @@ abbrev pub LoadedTable : Type 0
 LoadedTable =
     (file old : List ℕ) (answer : ℕ) (new : List ℕ) → LoadsTable file old answer new → answer ≡ 0
     → (length new ≡ store_size) × (stored old ≡ []) × (stored new ≡ []) × (take slots_size new ≡ take slots_size old)
-    × (read_table file ≡ done (classes_of new)) × (sound_table (classes_of new) ≡ true)
+    × (read_table file ≡ Ok (classes_of new)) × (sound_table (classes_of new) ≡ true)
 
 -- while something is stored no offer changes anything
 abbrev pub TableStays : Type 0

@@ -1,13 +1,14 @@
 // A table's file, read row after row into the table's image.
-ghost use Rattle.std.specs.Prelude.{◌≡◌, ◌+◌, ◌≤◌, ◌<◌, length, drop, replicate};
+ghost use Rattle.std.specs.Prelude.{◌≡◌, ◌<◌, None, Some, length, replicate};
 ghost use Rattle.outcome.specs.Answer.{pick};
+ghost use Rattle.outcome.specs.Result.{number_in};
 ghost use Rattle.decimal.specs.Decimal.{Room, Appended};
 ghost use Rattle.profile.specs.Table.{table_size};
 ghost use Rattle.table.specs.File.{row_text, row_in};
-ghost use Rattle.table.specs.InnerRows.{row_of, fits_after, begins, NumberBehind, RowsRead};
+ghost use Rattle.table.specs.InnerRows.{row_of, fits_after, begins, RowsRead};
 
-use buffers::equal;
-use decimal::{Number, read_decimal, write_decimal};
+use decimal::{number_behind, write_decimal};
+use outcome::Refusal;
 use profile::table::{FIRST_ROW, MOST_ROWS, ROW_SIZE};
 use words::{append_word, append_words};
 
@@ -22,29 +23,16 @@ pub struct Row {
 // A row has at most 24 bytes: a letter, two numbers of ten digits, two commas and LF.
 const LONGEST_ROW: usize = 24;
 
-// The number that stands `skip` bytes behind a place; where the file ends before it, 0 at the file's end.
-fn number_behind(file: &[u8], at: usize, skip: usize) -> Number
-    requires { at ≤ length file.now }
-    ensures { NumberBehind file.now at skip result }
-{
-    if file.len() - at < skip {
-        return Number {
-            value: 0,
-            end: file.len(),
-        };
-    }
-    read_decimal(file, at + skip)
-}
-
 // What stands where a row has its letter and its numbers; nothing is checked.
-fn row_at(file: &[u8], at: usize) -> Row
-    requires { at < length file.now }
-    ensures { row_of result ≡ row_in (drop at file.now) }
+#[tactic(auto, unfolding(crate::specs::File::row_in))]
+fn row_at(rest: &[u8]) -> Row
+    requires { 0 < length rest.now }
+    ensures { row_of result ≡ row_in rest.now }
 {
-    let low = number_behind(file, at, 2);
-    let high = number_behind(file, low.end, 1);
+    let low = number_behind(rest, 0, 2);
+    let high = number_behind(rest, low.end, 1);
     Row {
-        letter: file[at],
+        letter: rest[0],
         low: low.value,
         high: high.value,
     }
@@ -55,22 +43,15 @@ fn row_at(file: &[u8], at: usize) -> Row
 fn row_fits(before: Row, row: Row) -> bool
     ensures { result ≡ fits_after (row_of before) (row_of row) }
 {
-    if row.letter <= before.letter {
-        return false;
-    }
-    if row.low <= before.high {
-        return false;
-    }
-    if row.letter > b'Z' {
-        return false;
-    }
-    if row.low > row.high {
-        return false;
-    }
-    row.high <= 1000
+    before.letter < row.letter
+        && before.high < row.low
+        && row.letter <= b'Z'
+        && row.low <= row.high
+        && row.high <= 1000
 }
 
 // Writes a row as a file has it, and returns its length.
+#[tactic(auto, using(crate::proofs::PlaceLaws::row_stored))]
 fn append_row(row: Row, out: &mut [u8]) -> usize
     requires { Room out.old 0 (row_text (row_of row)) }
     ensures { Appended out.old 0 (row_text (row_of row)) out.new result }
@@ -84,28 +65,19 @@ fn append_row(row: Row, out: &mut [u8]) -> usize
     end + 1
 }
 
-// The place after a row whose text stands at a place, or that place where another text stands there.
-fn row_end(file: &[u8], at: usize, row: Row) -> usize
-    requires { at ≤ length file.now }
-    ensures { result ≡
-        pick (begins (row_of row) (drop at file.now)) (at + length (row_text (row_of row))) at }
+// The place after the row's text, where the rest of a file begins with it.
+fn row_end(rest: &[u8], row: Row) -> Option<usize>
+    ensures { result ≡ pick (begins (row_of row) rest.now) (Some (length (row_text (row_of row)))) None }
 {
     let mut text = [0u8; LONGEST_ROW];
-    let size = append_row(row, &mut text);
-    if file.len() - at < size {
-        return at;
-    }
-    let end = at + size;
-    if equal(&text[..size], &file[at..end]) {
-        return end;
-    }
-    at
+    let end = append_row(row, &mut text);
+    rest.starts_with(&text[..end]).then_some(end)
 }
 
-// Reads a file into an image of zeros. Where it is no table's file the answer is false, and the image means nothing.
-pub fn read_rows(file: &[u8], image: &mut [u8]) -> bool
+// Reads a file into an image of zeros. Where it is no table's file, the image means nothing.
+pub fn read_rows(file: &[u8], image: &mut [u8]) -> Result<(), Refusal>
     requires { image.old ≡ replicate table_size 0 }
-    ensures { RowsRead file.now result image.new }
+    ensures { RowsRead file.now (number_in result) image.new }
 {
     // Every row that keeps the rules by itself may stand behind this one.
     let mut before = Row {
@@ -113,29 +85,27 @@ pub fn read_rows(file: &[u8], image: &mut [u8]) -> bool
         low: 0,
         high: 99,
     };
-    let mut at = 0;
+    let mut rest = file;
     let mut rows = 0;
-    while file.len() - at > 0 {
+    // The rows have no fixed length, so that nothing counts them before they are read.
+    while !rest.is_empty() {
         if rows == MOST_ROWS {
-            return false;
+            return Err(Refusal::BadTable);
         }
-        let row = row_at(file, at);
+        let row = row_at(rest);
         if !row_fits(before, row) {
-            return false;
+            return Err(Refusal::BadTable);
         }
-        let end = row_end(file, at, row);
-        if end == at {
-            return false;
-        }
+        let end = row_end(rest, row).ok_or(Refusal::BadTable)?;
         let place = FIRST_ROW + ROW_SIZE * rows;
         append_words(row.letter as u32, row.low, row.high, image, place);
         before = row;
-        at = end;
+        rest = &rest[end..];
         rows += 1;
     }
     if rows == 0 {
-        return false;
+        return Err(Refusal::BadTable);
     }
     append_word(rows as u32, image, 0);
-    true
+    Ok(())
 }

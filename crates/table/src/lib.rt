@@ -3,63 +3,49 @@
 
 mod file;
 
-ghost use Rattle.std.specs.Prelude.{◌≡◌, length};
-ghost use Rattle.store.specs.Stored.{store_size, stored};
+ghost use Rattle.std.specs.Prelude.{◌≡◌};
+ghost use Rattle.outcome.specs.Result.{number_in};
+ghost use Rattle.store.specs.Stored.{stored};
 ghost use Rattle.table.specs.File.{ReadsTable, is_empty, LoadsTable};
 
-use buffers::copy;
 use file::read_rows;
-use image::PROFILE_SIZE;
-use outcome::{BAD_SIZE, BAD_TABLE, STORE_IN_USE};
+use outcome::Refusal;
 use profile::table::TABLE_SIZE;
-use store::{CAPACITY, SLOTS_SIZE, STORE_SIZE, is_used};
+use store::slots::StoreImage;
+use store::{SLOTS_SIZE, STORE_SIZE, is_used};
 
 // Reads a table's file into a lent image. The lent bytes change only where the file is read.
-pub fn read_table(file: &[u8], table: &mut [u8]) -> u8
-    ensures { ReadsTable file.now table.old result table.new }
+pub fn read_table(file: &[u8], table: &mut [u8]) -> Result<(), Refusal>
+    ensures { ReadsTable file.now table.old (number_in result) table.new }
 {
     if table.len() != TABLE_SIZE {
-        return BAD_SIZE;
+        return Err(Refusal::BadSize);
     }
     let mut image = [0u8; TABLE_SIZE];
-    if !read_rows(file, &mut image) {
-        return BAD_TABLE;
-    }
-    copy(table, &image);
-    0
+    read_rows(file, &mut image)?;
+    table.copy_from_slice(&image);
+    Ok(())
 }
 
 // Whether a store holds no profile.
-fn is_empty(store: &[u8]) -> bool
-    requires { length store.now ≡ store_size }
-    ensures { result ≡ is_empty (stored store.now) }
+fn is_empty(store: StoreImage) -> bool
+    ensures { result ≡ is_empty (stored store.entry.bytes.now) }
 {
-    let mut i: usize = 0;
-    while i < CAPACITY {
-        let at = PROFILE_SIZE * i;
-        let end = at + PROFILE_SIZE;
-        if is_used(&store[at..end]) {
-            return false;
-        }
-        i += 1;
-    }
-    true
+    store.slots().iter().all(|slot| !is_used(slot))
 }
 
 // Loads a table's file into a store, while it holds no profile: every profile there keeps the rules of its table.
-pub fn load_table(store: &mut [u8], file: &[u8]) -> u8
-    ensures { LoadsTable file.now store.old result store.new }
+pub fn load_table(store: &mut [u8], file: &[u8]) -> Result<(), Refusal>
+    ensures { LoadsTable file.now store.old (number_in result) store.new }
 {
     if store.len() != STORE_SIZE {
-        return BAD_SIZE;
+        return Err(Refusal::BadSize);
     }
     let mut image = [0u8; TABLE_SIZE];
-    if !read_rows(file, &mut image) {
-        return BAD_TABLE;
+    read_rows(file, &mut image)?;
+    if !is_empty(StoreImage { bytes: store }) {
+        return Err(Refusal::StoreInUse);
     }
-    if !is_empty(store) {
-        return STORE_IN_USE;
-    }
-    copy(&mut store[SLOTS_SIZE..], &image);
-    0
+    store[SLOTS_SIZE..].copy_from_slice(&image);
+    Ok(())
 }

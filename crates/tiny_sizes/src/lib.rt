@@ -4,10 +4,12 @@
 
 pub mod shake256;
 
+ghost use Rattle.std.specs.Prelude.{◌≡◌};
 ghost use Rattle.tiny_sizes.specs.Tiny.{tiny};
 ghost use Rattle.scheme.specs.Entries.{MakesKey, Signs, Verifies, VerifiesRound};
 
-use parameters::Params;
+use gridprofile::entries::Entries;
+use parameters::{Category, Params};
 
 const TINY: Params = Params {
     n: 4,
@@ -24,21 +26,30 @@ const TINY: Params = Params {
     second: 8,
 };
 
-// Lent scratch: V with the rest of its last group, the seeds of all rounds, what is kept of them.
-const DRAWN_MATRIX: usize = (TINY.n - TINY.k) * TINY.k + 8;
+const BLOCK: usize = TINY.matrix;
+
+const MATRIX: usize = (TINY.n - TINY.k) * TINY.k + 8;
 
 const SEEDS: usize = TINY.t * TINY.seed;
 
 const STATES: usize = TINY.t * (2 * TINY.n + 2 * TINY.digest);
+
+const KEY: usize = TINY.digest + (7 * (TINY.n - TINY.k) + 7) / 8;
+
+fn entries() -> Entries<BLOCK, MATRIX, SEEDS, STATES, KEY>
+    ensures { result.category.sizes ≡ tiny }
+{
+    Entries {
+        category: Category { sizes: TINY },
+    }
+}
 
 // The public key of a private seed.
 #[unsafe(no_mangle)]
 pub extern "C" fn tiny_make_key(private: &[u8], key: &mut [u8]) -> u8
     ensures { MakesKey tiny private.now key.old result key.new }
 {
-    let mut block = [0u8; TINY.matrix];
-    let mut vs = [0u8; DRAWN_MATRIX];
-    keygen::make_key(TINY, private, &mut block, &mut vs, key)
+    entries().make_key(private, key)
 }
 
 // The signature of a message.
@@ -53,22 +64,7 @@ pub extern "C" fn tiny_sign(
     ensures { Signs tiny private.now master.now salt.now msg.now
         sig.old result sig.new }
 {
-    let mut block = [0u8; TINY.matrix];
-    let mut vs = [0u8; DRAWN_MATRIX];
-    let mut seeds = [0u8; SEEDS];
-    let mut states = [0u8; STATES];
-    signer::sign::sign(
-        TINY,
-        private,
-        master,
-        salt,
-        msg,
-        &mut block,
-        &mut vs,
-        &mut seeds,
-        &mut states,
-        sig,
-    )
+    entries().sign(private, master, salt, msg, sig)
 }
 
 // Whether a signature is one of the message under the key.
@@ -76,9 +72,7 @@ pub extern "C" fn tiny_sign(
 pub extern "C" fn tiny_verify(key: &[u8], msg: &[u8], sig: &[u8]) -> u8
     ensures { Verifies tiny key.now msg.now sig.now result }
 {
-    let mut block = [0u8; TINY.matrix];
-    let mut vs = [0u8; DRAWN_MATRIX];
-    verifier::verify::verify(TINY, key, msg, sig, &mut block, &mut vs)
+    entries().verify(key, msg, sig)
 }
 
 // The round examiner: one round, given its challenges and commitments.
@@ -97,9 +91,5 @@ pub extern "C" fn tiny_verify_round(
     ensures { VerifiesRound tiny key.now salt.now i c0.now c1.now beta
         h.now challenge reply.now result }
 {
-    let mut block = [0u8; TINY.matrix];
-    let mut vs = [0u8; DRAWN_MATRIX];
-    verifier::verify_round::verify_round(
-        TINY, key, salt, i, c0, c1, beta, h, challenge, reply, &mut block, &mut vs,
-    )
+    entries().verify_round(key, salt, i, c0, c1, beta, h, challenge, reply)
 }

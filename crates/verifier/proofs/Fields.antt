@@ -31,21 +31,16 @@ module _ (w m n : ℕ) where
       in
       record { answer = here.answer ∙ rw (eq-eqb (length bytes) (size w n) long); content = here.content }
 
-  -- where nothing is refused: the fields, in range, and no spare bit of 1
+  -- where nothing is refused: what is read is the fields, in range, and no spare bit is 1
   pub record Read (bytes new : List ℕ) : Type 0 where
     pub fields : new ≡ unpack w n bytes
     pub ranged : T (all_below m (unpack w n bytes))
     pub spare : T (spare_zero w n bytes)
 
-  pub reads : {r : ℕ} {bytes old new : List ℕ} → Answers (field_checks bytes) (unpack w n bytes) old r new → r ≡ 0
-      → Read bytes new
-  reads {r} {bytes} answers zero =
-      let held = passed (field_checks bytes) (sym answers.answer ∙ zero) in
-      record {
-        fields = answers.content ∙ rw (eq-eqb r 0 zero);
-        ranged = held.0;
-        spare = held.1.0;
-      }
+  pub reads : {bytes old new xs : List ℕ} → Answers (field_checks bytes) (unpack w n bytes) old 0 new → xs ≡ new → Read bytes xs
+  reads {bytes} answers e =
+      let held = passed (field_checks bytes) (sym answers.answer) in
+      record { fields = e ∙ answers.content; ranged = held.0; spare = held.1.0 }
 
   -- they are a vector
   pub read_vector : {bytes new : List ℕ} → Read bytes new → Vector m n new

@@ -1,8 +1,10 @@
 pub mod Comparing
+pub mod Examining
+pub mod Exits
 pub mod Fields
-pub mod Halves
 pub mod Hashed
 pub mod Keys
+pub mod Parts
 pub mod Pieces
 pub mod Rounded
 pub mod Running
@@ -11,3 +13,4 @@ pub mod Stepping
 pub mod Steps
 pub mod Values
 pub mod Vectors
+pub mod Verifying

@@ -13,9 +13,6 @@ use Rattle.packing.specs.InnerVector.{Vector}
 pub made : (m n : ℕ) {xs ys : List ℕ} → xs ≡ ys → length ys ≡ n → Below m ys → Vector m n xs
 made m n {ys = ys} e l b = rw e (record { long = l; ranged = kept_below m ys b })
 
-pub same_vector : (m n : ℕ) {xs ys : List ℕ} → xs ≡ ys → Vector m n ys → Vector m n xs
-same_vector m n e v = rw e v
-
 -- the length of the syndrome of a reply
 pub length_less : (β n k : ℕ) (vs s es ys : List ℕ) → length es ≡ n → length ys ≡ n → length s ≡ n - k
     → length (less_times β (syndrome k vs (scaled es ys)) s) ≡ n - k

@@ -4,18 +4,12 @@
 use Rattle.std.specs.Prelude.{◌≡◌, List, ℕ}
 use Rattle.outcome.specs.Answer.{first_refusal}
 use Rattle.outcome.specs.Lists.{flat}
+use Rattle.outcome.specs.Result.{Result, Ok, number_in}
 use Rattle.parameters.specs.declared.Params.{Params}
-use Rattle.shake.specs.InnerFold.{Holds, Absorbs, Ready}
+use Rattle.shake.specs.InnerFold.{Holds, Absorbs}
 use Rattle.scheme.specs.Strings.{aggregate, all_commitments0_string, all_commitments1_string, all_responses_string}
 use Rattle.scheme.specs.Verify.{checks_in, c0_in, c1_in, h_in, checks_at, c0_at, c1_at, h_at, differences}
 use Rattle.verifier.specs.declared.rounds.Sponges.{Sponges}
-use Rattle.verifier.specs.declared.rounds.Rounds.{Rounds}
-
--- three sponges that can take bytes in
-pub record AllReady (sponges : Sponges) : Type 0 where
-  pub c0 : Ready sponges.c0
-  pub c1 : Ready sponges.c1
-  pub h : Ready sponges.h
 
 -- the sponges hold these strings behind their tags
 pub record HoldAll (sponges : Sponges) (rate : ℕ) (c0s c1s hs : List ℕ) : Type 0 where
@@ -30,19 +24,20 @@ pub record Stepped
     (i β b : ℕ)
     (part : List ℕ)
     (before : Sponges)
-    (r : Rounds)
+    (r : ℕ)
+    (after : Sponges)
     : Type 0
   where
-    pub answer : r.answer ≡ first_refusal (checks_in p vs s salt i β b part)
-    pub c0 : r.answer ≡ 0 → Absorbs before.c0 (c0_in p vs s salt i β b part) r.sponges.c0
-    pub c1 : r.answer ≡ 0 → Absorbs before.c1 (c1_in p vs s salt i β b part) r.sponges.c1
-    pub h : r.answer ≡ 0 → Absorbs before.h (h_in p vs s salt i β b part) r.sponges.h
+    pub answer : r ≡ first_refusal (checks_in p vs s salt i β b part)
+    pub c0 : r ≡ 0 → Absorbs before.c0 (c0_in p vs s salt i β b part) after.c0
+    pub c1 : r ≡ 0 → Absorbs before.c1 (c1_in p vs s salt i β b part) after.c1
+    pub h : r ≡ 0 → Absorbs before.h (h_in p vs s salt i β b part) after.h
 
--- all rounds: the answer is that of the lowest that refuses; where it is 0, the sponges hold all c0(i), c1(i), h(i)
-pub record Ran (p : Params) (vs s salt rounds β b : List ℕ) (r : Rounds) : Type 0 where
-  pub answer : r.answer ≡ first_refusal (flat (checks_at p vs s salt rounds β b) p.t)
-  pub holds : r.answer ≡ 0
-      → HoldAll r.sponges p.rate (flat (c0_at p vs s salt rounds β b) p.t)
+-- all rounds: the answer is that of the lowest that refuses; where none does, the sponges hold all c0(i), c1(i), h(i)
+pub record Ran (p : Params) (vs s salt rounds β b : List ℕ) (r : Result Sponges) : Type 0 where
+  pub answer : number_in r ≡ first_refusal (flat (checks_at p vs s salt rounds β b) p.t)
+  pub holds : (sponges : Sponges) → r ≡ Ok sponges
+      → HoldAll sponges p.rate (flat (c0_at p vs s salt rounds β b) p.t)
       (flat (c1_at p vs s salt rounds β b) p.t) (flat (h_at p vs s salt rounds β b) p.t)
 
 -- c and h compared with what the sponges give

@@ -1,17 +1,19 @@
 // A key that is given.
 ghost use Rattle.std.specs.Prelude.{◌≡◌, ◌-◌, length};
 ghost use Rattle.outcome.specs.Answer.{Answers};
-ghost use Rattle.parameters.specs.Sound.{Sound};
+ghost use Rattle.outcome.specs.Result.{number_in};
 ghost use Rattle.scheme.specs.Key.{key_size, key_fields, syndrome_of};
 
-use parameters::Params;
+use outcome::Refusal;
+use packing::VALUE;
+use parameters::Category;
 
 // The syndrome of a key of the right size, or the refusal of its fields.
-pub fn syndrome(p: Params, key: &[u8], s: &mut [u8]) -> u8
-    requires { Sound p × (length key.now ≡ key_size p) × (length s.old ≡ p.n - p.k) }
-    ensures { Answers (key_fields p key.now) (syndrome_of p key.now) s.old result
-        s.new }
+pub fn syndrome(p: Category, key: &[u8], s: &mut [u8]) -> Result<(), Refusal>
+    requires { (length key.now ≡ key_size p.sizes) × (length s.old ≡ p.sizes.n - p.sizes.k) }
+    ensures { Answers (key_fields p.sizes key.now) (syndrome_of p.sizes key.now) s.old
+        (number_in result) s.new }
 {
-    let d = p.digest;
-    packing::unpack_values(&key[d..], s)
+    let d = p.sizes.digest;
+    packing::unpack::<VALUE>(&key[d..], s)
 }

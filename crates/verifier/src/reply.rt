@@ -1,17 +1,17 @@
 // One round recomputed from its reply: the commitment that the reply gives, then h(i).
-ghost use Rattle.std.specs.Prelude.{◌≡◌, [], ◌∷◌, ◌++◌, ◌-◌, ◌*◌, ◌<◌, ◌≤◌, length, take, drop};
-ghost use Rattle.parameters.specs.Sound.{Sound};
+ghost use Rattle.std.specs.Prelude.{◌≡◌, [], ◌∷◌, ◌++◌, ◌-◌, length};
 ghost use Rattle.packing.specs.Packing.{pack};
 ghost use Rattle.linear.specs.Linear.{scaled, less_times, response, syndrome as syndrome_of};
 ghost use Rattle.scheme.specs.Strings.{digest, commitment1_string, response_string, round_number};
-ghost use Rattle.scheme.specs.Key.{matrix_count};
-ghost use Rattle.scheme.specs.Round.{values_size, reply_size};
+ghost use Rattle.scheme.specs.Round.{reply_size};
 ghost use Rattle.packing.specs.InnerVector.{Vector};
-ghost use Rattle.verifier.specs.InnerRecomputed.{Recomputed};
+ghost use Rattle.verifier.specs.InnerRecomputed.{Made, Recomputed};
 
+use crate::public_key::PublicKey;
 use field::Value;
-use outcome::SHORT_DRAW;
-use parameters::{DRAWN_PLACES, PACKED_EXPONENTS, PACKED_VALUES, PLACES, Params};
+use outcome::Refusal;
+use packing::{EXPONENT, VALUE};
+use parameters::{Category, DIGEST, DRAWN_PLACES, PACKED_EXPONENTS, PACKED_VALUES, PLACES};
 use scheme::tag;
 
 // A round: its number from 1, its first and its second challenge.
@@ -22,188 +22,169 @@ pub struct Round {
     pub b: u8,
 }
 
+// What a reply gives: its commitment and h(i), each in the first places.
+#[derive(Clone, Copy)]
+pub struct Digests {
+    pub commitment: [u8; DIGEST],
+    pub hash: [u8; DIGEST],
+}
+
 // c1(i): mask values and mask exponents, packed.
-fn commit_mask(p: Params, us: &[u8], es: &[u8], salt: &[u8], i: usize, out: &mut [u8])
-    requires { Sound p × Vector 127 p.n us.now × Vector 7 p.n es.now × (length out.old ≡ p.digest) }
-    ensures { out.new ≡ digest p (commitment1_string us.now es.now salt.now i) }
+fn commit_mask(p: Category, us: &[u8], es: &[u8], salt: &[u8], i: usize, out: &mut [u8])
+    requires { Vector 127 p.sizes.n us.now × Vector 7 p.sizes.n es.now × (length out.old ≡ p.sizes.digest) }
+    ensures { out.new ≡ digest p.sizes (commitment1_string us.now es.now salt.now i) }
 {
-    let u = packing::packed_size(p.n, 7);
-    let e = packing::packed_size(p.n, 3);
+    let u = packing::packed_size(p.sizes.n, VALUE);
+    let e = packing::packed_size(p.sizes.n, EXPONENT);
     let mut values = [0u8; PACKED_VALUES];
-    expand::pack_values(us, &mut values[..u]);
+    expand::pack::<VALUE>(us, &mut values[..u]);
     let mut exponents = [0u8; PACKED_EXPONENTS];
-    expand::pack_exponents(es, &mut exponents[..e]);
+    expand::pack::<EXPONENT>(es, &mut exponents[..e]);
     let number = expand::round_number(i);
-    hashing::hash4(
-        p.rate,
+    hashing::hash(
+        p,
         tag::COMMITMENT_1,
-        &values[..u],
-        &exponents[..e],
-        salt,
-        &number,
+        &[&values[..u], &exponents[..e], salt, &number],
         out,
     );
 }
 
 // h(i) of a response.
-fn commit_response(p: Params, ys: &[u8], out: &mut [u8])
-    requires { Sound p × Vector 127 p.n ys.now × (length out.old ≡ p.digest) }
-    ensures { out.new ≡ digest p (response_string ys.now) }
+fn commit_response(p: Category, ys: &[u8], out: &mut [u8])
+    requires { Vector 127 p.sizes.n ys.now × (length out.old ≡ p.sizes.digest) }
+    ensures { out.new ≡ digest p.sizes (response_string ys.now) }
 {
-    let y = packing::packed_size(p.n, 7);
+    let y = packing::packed_size(p.sizes.n, VALUE);
     let mut values = [0u8; PACKED_VALUES];
-    expand::pack_values(ys, &mut values[..y]);
-    hashing::hash1(p.rate, tag::RESPONSE, &values[..y], out);
+    expand::pack::<VALUE>(ys, &mut values[..y]);
+    hashing::hash(p, tag::RESPONSE, &[&values[..y]], out);
 }
 
 // Both digests from the mask values u' and the mask exponents e'.
-fn from_mask(p: Params, us: &[u8], es: &[u8], salt: &[u8], round: Round, out: &mut [u8])
-    requires { Sound p × Vector 127 p.n us.now × Vector 7 p.n es.now × (round.beta.0 < 127)
-        × (length out.old ≡ 2 * p.digest) }
-    ensures { out.new ≡
-        digest p (commitment1_string us.now es.now salt.now round.i) ++
-        digest p (response_string (response round.beta.0 us.now es.now)) }
+fn from_mask(p: Category, us: &[u8], es: &[u8], salt: &[u8], round: Round) -> Digests
+    requires { Vector 127 p.sizes.n us.now × Vector 7 p.sizes.n es.now }
+    ensures { Made p.sizes (commitment1_string us.now es.now salt.now round.i)
+        (response_string (response round.beta.value us.now es.now)) result }
 {
-    let n = p.n;
-    let d = p.digest;
-    commit_mask(p, us, es, salt, round.i, &mut out[..d]);
+    let n = p.sizes.n;
+    let d = p.sizes.digest;
+    let mut commitment = [0u8; DIGEST];
+    commit_mask(p, us, es, salt, round.i, &mut commitment[..d]);
     let mut ys = [0u8; PLACES];
-    let beta = round.beta;
-    linear::respond(beta, us, es, &mut ys[..n]);
+    linear::respond(round.beta, us, es, &mut ys[..n]);
     linear::normalize(&mut ys[..n]);
-    commit_response(p, &ys[..n], &mut out[d..]);
+    let mut hash = [0u8; DIGEST];
+    commit_response(p, &ys[..n], &mut hash[..d]);
+    Digests { commitment, hash }
 }
 
 // Under the second challenge 1: the reply is the round's seed.
-fn from_seed(p: Params, salt: &[u8], round: Round, seed: &[u8], out: &mut [u8]) -> u8
-    requires { Sound p × (round.beta.0 < 127) × (length out.old ≡ 2 * p.digest) }
-    ensures { Recomputed p [] [] 1 round.beta.0 seed.now salt.now round.i result
-        out.new }
+fn from_seed(p: Category, salt: &[u8], round: Round, seed: &[u8]) -> Result<Digests, Refusal>
+    ensures { Recomputed p.sizes [] [] 1 round.beta.value seed.now salt.now round.i result }
 {
-    let n = p.n;
-    let i = round.i;
+    let n = p.sizes.n;
     let mut es = [0u8; DRAWN_PLACES];
-    if !expand::mask_exponents(p, seed, salt, i, &mut es) {
-        return SHORT_DRAW;
-    }
+    expand::mask_exponents(p, seed, salt, round.i, &mut es)?;
     let mut us = [0u8; DRAWN_PLACES];
-    if !expand::mask_values(p, seed, salt, i, &mut us) {
-        return SHORT_DRAW;
-    }
-    from_mask(p, &us[..n], &es[..n], salt, round, out);
-    0
+    expand::mask_values(p, seed, salt, round.i, &mut us)?;
+    Ok(from_mask(p, &us[..n], &es[..n], salt, round))
 }
 
 // s̃ = (2^σ times y) H transposed − β s.
-fn reply_syndrome(p: Params, vs: &[u8], s: &[u8], beta: Value, es: &[u8], ys: &[u8], out: &mut [u8])
-    requires sound { Sound p × Vector 127 (matrix_count p) vs.now × Vector 127 (p.n - p.k) s.now × (beta.0 < 127) }
-    requires vector { Vector 7 p.n es.now × Vector 127 p.n ys.now × (length out.old ≡ p.n - p.k) }
+fn reply_syndrome(key: PublicKey<'_>, beta: Value, es: &[u8], ys: &[u8], out: &mut [u8])
+    requires { Vector 7 key.category.sizes.n es.now × Vector 127 key.category.sizes.n ys.now
+        × (length out.old ≡ key.category.sizes.n - key.category.sizes.k) }
     ensures { out.new ≡
-        less_times beta.0 (syndrome_of p.k vs.now (scaled es.now ys.now))
-        s.now }
+        less_times beta.value (syndrome_of key.entry.category.sizes.k key.entry.vs.now (scaled es.now ys.now))
+        key.entry.s.now }
 {
-    let n = p.n;
-    let k = p.k;
+    let n = key.category.sizes.n;
+    let k = key.category.sizes.k;
     let m = n - k;
     let mut scaled = [0u8; PLACES];
     linear::scale(es, ys, &mut scaled[..n]);
     let mut product = [0u8; PLACES];
-    linear::syndrome(k, vs, &scaled[..n], &mut product[..m]);
-    linear::subtract(beta, &product[..m], s, out);
+    linear::syndrome(k, key.vs, &scaled[..n], &mut product[..m]);
+    linear::subtract(beta, &product[..m], key.s, out);
     linear::normalize(out);
 }
 
 // c0(i): s̃, and σ as it came packed.
-fn commit_syndrome(p: Params, xs: &[u8], exponents: &[u8], salt: &[u8], i: usize, out: &mut [u8])
-    requires { Sound p × Vector 127 (p.n - p.k) xs.now × (length out.old ≡ p.digest) }
+fn commit_syndrome(p: Category, xs: &[u8], exponents: &[u8], salt: &[u8], i: usize, out: &mut [u8])
+    requires { Vector 127 (p.sizes.n - p.sizes.k) xs.now × (length out.old ≡ p.sizes.digest) }
     ensures { out.new ≡
-        digest p (0 ∷ pack 7 xs.now ++ exponents.now ++ salt.now ++ round_number i) }
+        digest p.sizes (0 ∷ pack 7 xs.now ++ exponents.now ++ salt.now ++ round_number i) }
 {
-    let x = packing::packed_size(p.n - p.k, 7);
+    let x = packing::packed_size(p.sizes.n - p.sizes.k, VALUE);
     let mut values = [0u8; PACKED_VALUES];
-    expand::pack_values(xs, &mut values[..x]);
+    expand::pack::<VALUE>(xs, &mut values[..x]);
     let number = expand::round_number(i);
-    hashing::hash4(
-        p.rate,
+    hashing::hash(
+        p,
         tag::COMMITMENT_0,
-        &values[..x],
-        exponents,
-        salt,
-        &number,
+        &[&values[..x], exponents, salt, &number],
         out,
     );
 }
 
 // Both digests from y and σ, whose packed forms are the reply's own bytes.
-fn from_fields(p: Params, xs: &[u8], reply: &[u8], salt: &[u8], i: usize, out: &mut [u8])
-    requires { Sound p × Vector 127 (p.n - p.k) xs.now × (values_size p ≤ length reply.now)
-        × (length out.old ≡ 2 * p.digest) }
-    ensures { out.new ≡
-        digest p (0 ∷ pack 7 xs.now ++ drop (values_size p) reply.now ++ salt.now ++
-        round_number i) ++
-        digest p (2 ∷ take (values_size p) reply.now) }
+fn from_fields(
+    p: Category,
+    xs: &[u8],
+    values: &[u8],
+    exponents: &[u8],
+    salt: &[u8],
+    i: usize,
+) -> Digests
+    requires { Vector 127 (p.sizes.n - p.sizes.k) xs.now }
+    ensures { Made p.sizes (0 ∷ pack 7 xs.now ++ exponents.now ++ salt.now ++ round_number i) (2 ∷ values.now) result }
 {
-    let d = p.digest;
-    let cut = packing::packed_size(p.n, 7);
-    commit_syndrome(p, xs, &reply[cut..], salt, i, &mut out[..d]);
-    hashing::hash1(p.rate, tag::RESPONSE, &reply[..cut], &mut out[d..]);
+    let d = p.sizes.digest;
+    let mut commitment = [0u8; DIGEST];
+    commit_syndrome(p, xs, exponents, salt, i, &mut commitment[..d]);
+    let mut hash = [0u8; DIGEST];
+    hashing::hash(p, tag::RESPONSE, &[values], &mut hash[..d]);
+    Digests { commitment, hash }
 }
 
 // Under the second challenge 0: the reply is y and σ, packed.
 fn from_values(
-    p: Params,
-    vs: &[u8],
-    s: &[u8],
+    key: PublicKey<'_>,
     salt: &[u8],
     round: Round,
     reply: &[u8],
-    out: &mut [u8],
-) -> u8
-    requires sound { Sound p × Vector 127 (matrix_count p) vs.now × Vector 127 (p.n - p.k) s.now
-        × (round.beta.0 < 127) }
-    requires reply_len { (length reply.now ≡ reply_size p 0) × (length out.old ≡ 2 * p.digest) }
-    ensures { Recomputed p vs.now s.now 0 round.beta.0 reply.now salt.now
-        round.i result out.new }
+) -> Result<Digests, Refusal>
+    requires { length reply.now ≡ reply_size key.category.sizes 0 }
+    ensures { Recomputed key.entry.category.sizes key.entry.vs.now key.entry.s.now 0 round.beta.value reply.now salt.now
+        round.i result }
 {
-    let n = p.n;
-    let m = n - p.k;
-    let cut = packing::packed_size(n, 7);
+    let p = key.category;
+    let n = p.sizes.n;
+    let m = n - p.sizes.k;
+    let (values, exponents) = reply.split_at(packing::packed_size(n, VALUE));
     let mut ys = [0u8; PLACES];
-    let values = packing::unpack_values(&reply[..cut], &mut ys[..n]);
-    if values != 0 {
-        return values;
-    }
+    packing::unpack::<VALUE>(values, &mut ys[..n])?;
     let mut es = [0u8; PLACES];
-    let exponents = packing::unpack_exponents(&reply[cut..], &mut es[..n]);
-    if exponents != 0 {
-        return exponents;
-    }
-    let beta = round.beta;
+    packing::unpack::<EXPONENT>(exponents, &mut es[..n])?;
     let mut xs = [0u8; PLACES];
-    reply_syndrome(p, vs, s, beta, &es[..n], &ys[..n], &mut xs[..m]);
-    from_fields(p, &xs[..m], reply, salt, round.i, out);
-    0
+    reply_syndrome(key, round.beta, &es[..n], &ys[..n], &mut xs[..m]);
+    Ok(from_fields(p, &xs[..m], values, exponents, salt, round.i))
 }
 
-// The answer is the reply's refusal; where that is 0, out is the commitment and h(i).
+// Both digests that a reply gives, or its refusal.
 pub fn recompute(
-    p: Params,
-    vs: &[u8],
-    s: &[u8],
+    key: PublicKey<'_>,
     salt: &[u8],
     round: Round,
     reply: &[u8],
-    out: &mut [u8],
-) -> u8
-    requires sound { Sound p × Vector 127 (matrix_count p) vs.now × Vector 127 (p.n - p.k) s.now
-        × (round.beta.0 < 127) }
-    requires reply_len { (length reply.now ≡ reply_size p round.b) × (length out.old ≡ 2 * p.digest) }
-    ensures { Recomputed p vs.now s.now round.b round.beta.0 reply.now
-        salt.now round.i result out.new }
+) -> Result<Digests, Refusal>
+    requires { length reply.now ≡ reply_size key.category.sizes round.b }
+    ensures { Recomputed key.entry.category.sizes key.entry.vs.now key.entry.s.now round.b round.beta.value reply.now
+        salt.now round.i result }
 {
     if round.b == 1 {
-        from_seed(p, salt, round, reply, out)
+        from_seed(key.category, salt, round, reply)
     } else {
-        from_values(p, vs, s, salt, round, reply, out)
+        from_values(key, salt, round, reply)
     }
 }

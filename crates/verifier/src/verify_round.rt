@@ -1,33 +1,29 @@
 // The round examiner: one round, given its challenges and its commitments.
-ghost use Rattle.std.specs.Prelude.{◌≡◌, ◌+◌, ◌-◌, ◌*◌, ◌<◌, length};
+ghost use Rattle.std.specs.Prelude.{◌≡◌, ◌≤◌, length, IfOk};
 ghost use Rattle.outcome.specs.Answer.{first_refusal};
-ghost use Rattle.parameters.specs.Sound.{Sound};
-ghost use Rattle.scheme.specs.Key.{matrix_count};
+ghost use Rattle.outcome.specs.Result.{number_in};
+ghost use Rattle.scheme.specs.Key.{key_size};
 ghost use Rattle.scheme.specs.Round.{reply_size};
 ghost use Rattle.scheme.specs.VerifyRound.{reply_sized, verify_round_sizes, verify_round_numbers, verify_round_reply};
 ghost use Rattle.scheme.specs.Entries.{VerifiesRound};
-ghost use Rattle.expand.specs.InnerScratch.{Scratch};
-ghost use Rattle.packing.specs.InnerVector.{Vector};
 
+use crate::public_key::PublicKey;
 use crate::reply::Round;
-use crate::{key, reply};
+use crate::{compare, key, reply};
+use expand::scratch::Scratch;
 use field::Value;
-use outcome::{BAD_FIELD, BAD_SIZE, MISMATCH, SHORT_DRAW};
-use parameters::{PLACES, Params, TWO_DIGESTS};
+use outcome::Refusal;
+use parameters::{Category, PLACES};
 
 // Whether the reply has its size, which only the challenges 0 and 1 give.
-fn reply_sized(p: Params, challenge: u32, reply: &[u8]) -> bool
-    requires { Sound p }
-    ensures { result ≡ reply_sized p challenge reply.now }
+fn reply_sized(p: Category, challenge: u32, reply: &[u8]) -> bool
+    ensures { result ≡ reply_sized p.sizes challenge reply.now }
 {
-    if 1 < challenge {
-        return true;
-    }
-    reply.len() == scheme::reply_size(p, challenge as u8)
+    challenge > 1 || reply.len() == scheme::reply_size(p, challenge as u8)
 }
 
 fn sizes(
-    p: Params,
+    p: Category,
     key: &[u8],
     salt: &[u8],
     c0: &[u8],
@@ -35,91 +31,60 @@ fn sizes(
     h: &[u8],
     challenge: u32,
     reply: &[u8],
-) -> u8
-    requires { Sound p }
-    ensures { result ≡ first_refusal (verify_round_sizes p key.now salt.now c0.now
+) -> Result<(), Refusal>
+    ensures answer { number_in result ≡ first_refusal (verify_round_sizes p.sizes key.now salt.now c0.now
         c1.now h.now challenge reply.now) }
+    ensures sized { IfOk result (λ _. (length key.now ≡ key_size p.sizes)
+        × (challenge ≤ 1 → length reply.now ≡ reply_size p.sizes challenge)) }
 {
-    let d = p.digest;
-    if key.len() != scheme::key_size(p) {
-        return BAD_SIZE;
+    let d = p.sizes.digest;
+    if key.len() != scheme::key_size(p)
+        || salt.len() != d
+        || c0.len() != d
+        || c1.len() != d
+        || h.len() != d
+        || !reply_sized(p, challenge, reply)
+    {
+        return Err(Refusal::BadSize);
     }
-    if salt.len() != d {
-        return BAD_SIZE;
-    }
-    if c0.len() != d {
-        return BAD_SIZE;
-    }
-    if c1.len() != d {
-        return BAD_SIZE;
-    }
-    if h.len() != d {
-        return BAD_SIZE;
-    }
-    if !reply_sized(p, challenge, reply) {
-        return BAD_SIZE;
-    }
-    0
+    Ok(())
 }
 
-// i from 1 to t, β from 1 to 126, the challenge 0 or 1.
-fn numbers(p: Params, i: u32, beta: u32, challenge: u32) -> u8
-    requires { Sound p }
-    ensures { result ≡ first_refusal (verify_round_numbers p i beta challenge) }
+// A round: i from 1 to t, β from 1 to 126, the challenge 0 or 1.
+fn numbers(p: Category, i: u32, beta: u32, challenge: u32) -> Result<Round, Refusal>
+    ensures answer { number_in result ≡ first_refusal (verify_round_numbers p.sizes i beta challenge) }
+    ensures round { IfOk result (λ round. (round.i ≡ i) × (round.beta.value ≡ beta) × (round.b ≡ challenge)
+        × (round.b ≤ 1)) }
 {
-    if i < 1 {
-        return BAD_FIELD;
+    if i < 1 || i as usize > p.sizes.t || beta < 1 || beta > 126 || challenge > 1 {
+        return Err(Refusal::BadField);
     }
-    if p.t < i as usize {
-        return BAD_FIELD;
-    }
-    if beta < 1 {
-        return BAD_FIELD;
-    }
-    if 126 < beta {
-        return BAD_FIELD;
-    }
-    if 1 < challenge {
-        return BAD_FIELD;
-    }
-    0
+    Ok(Round {
+        i: i as usize,
+        beta: Value { value: beta as u8 },
+        b: challenge as u8,
+    })
 }
 
 // The reply, then the matching commitment and h(i).
 fn round(
-    p: Params,
-    vs: &[u8],
-    s: &[u8],
+    key: PublicKey<'_>,
     salt: &[u8],
     round: Round,
     reply: &[u8],
     matching: &[u8],
     h: &[u8],
-) -> u8
-    requires sound { Sound p × Vector 127 (matrix_count p) vs.now × Vector 127 (p.n - p.k) s.now
-        × (round.beta.0 < 127) }
-    requires reply_len { length reply.now ≡ reply_size p round.b }
-    ensures { result ≡ first_refusal (verify_round_reply p vs.now s.now salt.now round.i
-        round.beta.0 round.b reply.now matching.now h.now) }
+) -> Result<(), Refusal>
+    requires { length reply.now ≡ reply_size key.category.sizes round.b }
+    ensures { number_in result ≡ first_refusal (verify_round_reply key.entry.category.sizes key.entry.vs.now
+        key.entry.s.now salt.now round.i round.beta.value round.b reply.now matching.now h.now) }
 {
-    let d = p.digest;
-    let end = d + d;
-    let mut out = [0u8; TWO_DIGESTS];
-    let refusal = reply::recompute(p, vs, s, salt, round, reply, &mut out[..end]);
-    if refusal != 0 {
-        return refusal;
-    }
-    if !buffers::equal(matching, &out[..d]) {
-        return MISMATCH;
-    }
-    if !buffers::equal(h, &out[d..end]) {
-        return MISMATCH;
-    }
-    0
+    let d = key.category.sizes.digest;
+    let made = reply::recompute(key, salt, round, reply)?;
+    compare::agree(matching, &made.commitment[..d], h, &made.hash[..d])
 }
 
 pub fn verify_round(
-    p: Params,
     key: &[u8],
     salt: &[u8],
     i: u32,
@@ -129,44 +94,29 @@ pub fn verify_round(
     h: &[u8],
     challenge: u32,
     reply: &[u8],
-    block: &mut [u8],
-    vs: &mut [u8],
-) -> u8
-    requires { Scratch p block.old vs.old }
-    ensures { VerifiesRound p key.now salt.now i c0.now c1.now beta
-        h.now challenge reply.now result }
+    scratch: &mut Scratch<'_>,
+) -> Result<(), Refusal>
+    ensures { VerifiesRound scratch.old.category.sizes key.now salt.now i c0.now c1.now beta
+        h.now challenge reply.now (number_in result) }
 {
-    let refusal = sizes(p, key, salt, c0, c1, h, challenge, reply);
-    if refusal != 0 {
-        return refusal;
-    }
-    let m = p.n - p.k;
+    let p = scratch.category;
+    sizes(p, key, salt, c0, c1, h, challenge, reply)?;
+    let m = p.sizes.n - p.sizes.k;
     let mut s = [0u8; PLACES];
-    let fields = key::syndrome(p, key, &mut s[..m]);
-    if fields != 0 {
-        return fields;
-    }
-    let range = numbers(p, i, beta, challenge);
-    if range != 0 {
-        return range;
-    }
-    let d = p.digest;
-    if !expand::matrix(p, &key[..d], block, vs) {
-        return SHORT_DRAW;
-    }
-    let count = m * p.k;
-    let entries = &vs[..count];
-    let syndrome = &s[..m];
-    let first = beta as u8;
-    let b = challenge as u8;
-    let given = Round {
-        i: i as usize,
-        beta: Value(first),
-        b,
+    key::syndrome(p, key, &mut s[..m])?;
+    let given = numbers(p, i, beta, challenge)?;
+    expand::matrix(
+        p,
+        &key[..p.sizes.digest],
+        &mut *scratch.block,
+        &mut *scratch.vs,
+    )?;
+    let count = m * p.sizes.k;
+    let public = PublicKey {
+        category: p,
+        vs: &scratch.vs[..count],
+        s: &s[..m],
     };
-    if challenge == 1 {
-        round(p, entries, syndrome, salt, given, reply, c1, h)
-    } else {
-        round(p, entries, syndrome, salt, given, reply, c0, h)
-    }
+    let matching = if challenge == 1 { c1 } else { c0 };
+    round(public, salt, given, reply, matching, h)
 }

@@ -1,5 +1,5 @@
 -- `round_number`: two digits in base 256. Assumes nothing.
-use borrow.Author.Rules.{rules}
+use Rattle.std.proofs.Common.{rules}
 use Rattle.packing.specs.Packing.{digits}
 use Rattle.expand.proofs.round_number.Goals as goal
 

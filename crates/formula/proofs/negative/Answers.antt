@@ -2,5 +2,7 @@
 use Rattle.formula.proofs.WholeLaws.{negative_longer}
 use Rattle.formula.proofs.negative.Goals as goal
 
-pub returns-then-end-field : goal.returns-then-end-field
-returns-then-end-field c = negative_longer c.in-Read.ensures c.if-end-field.true
+pub returns-then-number-digits : goal.returns-then-number-digits
+returns-then-number-digits c =
+    let part = rw c.in_ok-number.ensures.ok_part at c.number_at.ensures.part in
+    negative_longer c.args.digits.now part c.if-number-digits.true

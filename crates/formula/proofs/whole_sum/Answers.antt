@@ -2,5 +2,7 @@
 use Rattle.formula.proofs.WholeLaws.{sum_longer}
 use Rattle.formula.proofs.whole_sum.Goals as goal
 
-pub returns-then-end-field : goal.returns-then-end-field
-returns-then-end-field c = sum_longer c.args.volts c.in-Read.ensures c.if-end-field.true
+pub returns-then-sum-field : goal.returns-then-sum-field
+returns-then-sum-field c =
+    let part = rw c.in_ok-sum.ensures.ok_part at c.sum.ensures in
+    sum_longer c.args.volts.volts c.args.field.now part c.if-sum-field.true

@@ -1,15 +1,8 @@
--- `normalize`: after i places the buffer holds the first i residues, then what it held. Assumes nothing.
-use mathlib.Core.Path.{◌≡◌}
-use Prim.Native.Nat.{ℕ, ◌≤◌, ◌-◌, ◌%◌}
-use lib.ListN.{length}
-use Rattle.linear.proofs.Loops.{zipped}
+-- `normalize`: each place below the index has its residue, and the others are as they were. Assumes nothing.
+use Rattle.std.proofs.Common.{◌≡◌, ℕ, ◌%◌, ◌<◌, ◌≤◌, get_or}
 use Rattle.linear.proofs.normalize.Given as goal
 
-abbrev pub residue : ℕ → ℕ → ℕ
-residue x y = x % 127
-
-abbrev pub invariant-loop-i : goal.invariant-loop-i
-invariant-loop-i l = (l.i ≤ length l.initial.xs) × (l.xs ≡ zipped residue l.initial.xs l.initial.xs l.initial.xs l.i)
-
-abbrev pub decreases-loop-i : goal.decreases-loop-i
-decreases-loop-i l = length l.initial.xs - l.i
+abbrev pub invariant-loop-x : goal.invariant-loop-x
+invariant-loop-x l =
+    ((k : ℕ) → k < l.x-index → get_or l.xs k 0 ≡ get_or l.initial.xs k 0 % 127)
+    × ((k : ℕ) → l.x-index ≤ k → get_or l.xs k 0 ≡ get_or l.initial.xs k 0)

@@ -1,45 +1,9 @@
--- `scale`: after i places the buffer holds the first i places of the result. Assumes nothing.
-use mathlib.Core.Path.{◌∙◌}
+-- `scale`: the buffer has each product. Assumes nothing.
 use native.Mathlib.Omega.{arith}
-use Rattle.packing.proofs.Below.{below, below_at}
-use Rattle.field.specs.Field.{times_power}
 use Rattle.linear.specs.Linear.{scaled}
-use Rattle.linear.proofs.Loops.{zipped_none, zipped_end, length_held, zipped_store}
+use Rattle.linear.proofs.Places.{zip_places}
 use Rattle.linear.proofs.scale.Goals as goal
-
-pub loop-i-init : goal.loop-i-init
-loop-i-init c =
-    let start = c.args in
-    (omega arith, zipped_none times_power start.a.now start.x.now start.out.now)
-
-pub times_power_with-requires : goal.times_power_with-requires
-times_power_with-requires c =
-    let i = c.loop-i.i in (
-      c.product_table-table.ensures,
-      below_at (below 7 _ c.requires.2) i (omega arith),
-      below_at (below 127 _ c.requires.3) i (omega arith),
-    )
-
-pub bounds-out-i : goal.bounds-out-i
-bounds-out-i c =
-    let now = c.loop-i in
-    let size = length_held times_power _ _ _ now.out now.i now.invariant.1 now.invariant.0 c.requires.1 c.requires.0 in
-    omega arith
-
-pub loop-i-preserved : goal.loop-i-preserved
-loop-i-preserved c =
-    let now = c.loop-i in (
-      omega arith,
-      zipped_store times_power _ _ _ now.out now.i _ now.invariant.1 c.times_power_with.ensures (omega arith) c.requires.1 c.requires.0,
-    )
-
-pub shape_of-out : goal.shape_of-out
-shape_of-out c =
-    let now = c.loop-i in
-    length_held times_power _ _ _ now.out now.i now.invariant.1 now.invariant.0 c.requires.1 c.requires.0
 
 pub returns : goal.returns
 unfolding scaled
-returns c =
-    let now = c.loop-i in
-    now.invariant.1 ∙ zipped_end times_power _ _ _ now.i (omega arith) c.requires.1 c.requires.0
+returns c = zip_places _ _ _ _ c.requires.1 (omega arith) (λ k h. c.loop-i.invariant k (omega arith))

@@ -1,12 +1,8 @@
--- `subtract`: after i places the buffer spells the first i places of the result. Assumes nothing.
-use Prim.Native.Nat.{◌≤◌, ◌-◌}
-use lib.ListN.{length}
-use Rattle.linear.specs.Linear.{less_times}
-use Rattle.linear.proofs.Spelled.{Spelled}
+-- `subtract`: each place below i spells its difference. Assumes nothing.
+use Rattle.std.proofs.Common.{◌≡◌, ℕ, ◌%◌, ◌<◌, get_or}
+use Rattle.field.specs.Field.{less}
 use Rattle.linear.proofs.subtract.Given as goal
 
 abbrev pub invariant-loop-i : goal.invariant-loop-i
-invariant-loop-i l = (l.i ≤ length l.x) × Spelled (less_times l.b.0 l.x l.s) l.initial.out l.out l.i
-
-abbrev pub decreases-loop-i : goal.decreases-loop-i
-decreases-loop-i l = length l.x - l.i
+invariant-loop-i l =
+    (k : ℕ) → k < l.i → (get_or l.out k 0 % 127 ≡ less l.b.value (get_or l.x k 0) (get_or l.s k 0)) × (get_or l.out k 0 < 128)

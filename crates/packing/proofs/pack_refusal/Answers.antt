@@ -1,28 +1,28 @@
 -- `packing::pack_refusal` meets its contract: each test decides as the list of checks says. Assumes nothing.
-use mathlib.Core.Path.{◌≡◌, ◌∙◌, sym}
-use mathlib.Core.Bool.{true, false}
+use mathlib.Core.Path.{◌∙◌, sym}
+use Prim.Native.Nat.{◌-◌, ◌^◌, ◌<◌, ◌≤◌}
+use native.Mathlib.Omega.{arith}
 use borrow.Author.Tests.{lt-ltb, le-ltb}
-use Rattle.packing.specs.Packing.{all_below}
 use Rattle.packing.proofs.Refusals.{pack_bad_size, pack_bad_field, pack_passes}
 use Rattle.packing.proofs.pack_refusal.Goals as goal
 
 pub returns-then-bytes-packed_size : goal.returns-then-bytes-packed_size
-returns-then-bytes-packed_size c =
+returns-then-bytes-packed_size g c =
     let a = c.args in
-    pack_bad_size a.w a.m a.xs.now a.bytes (λ e. c.if-bytes-packed_size.true (e ∙ sym c.packed_size.ensures))
+    pack_bad_size g.row.W (2 ^ g.row.W - 1) a.xs.now a.bytes (λ e. c.if-bytes-packed_size.true (e ∙ sym c.packed_size.ensures))
 
-pub returns-then-m-largest : goal.returns-then-m-largest
-returns-then-m-largest c =
+pub returns-then-pow2-see_fields : goal.returns-then-pow2-see_fields
+returns-then-pow2-see_fields g c =
     let a = c.args in
-    let some : all_below a.m a.xs.now ≡ false =
-    sym (c.largest.ensures a.m c.requires.1) ∙ le-ltb c.largest.result a.m c.if-m-largest.true in
-    pack_bad_field a.w a.m a.xs.now a.bytes
-    (c.if-bytes-packed_size.false ∙ c.packed_size.ensures) some
+    let seen = c.see_fields.result in
+    let reached : 2 ^ g.row.W ≤ seen = omega (arith, c.pow2.ensures, c.if-pow2-see_fields.true) in
+    pack_bad_field g.row.W (2 ^ g.row.W - 1) a.xs.now a.bytes (c.if-bytes-packed_size.false ∙ c.packed_size.ensures)
+    (sym (c.see_fields.ensures.1 g.row.W c.requires.0) ∙ le-ltb seen (2 ^ g.row.W) reached)
 
 pub returns : goal.returns
-returns c =
+returns g c =
     let a = c.args in
-    let none : all_below a.m a.xs.now ≡ true =
-    sym (c.largest.ensures a.m c.requires.1) ∙ lt-ltb c.largest.result a.m c.if-m-largest.false in
-    pack_passes a.w a.m a.xs.now a.bytes
-    (c.if-bytes-packed_size.false ∙ c.packed_size.ensures) none
+    let seen = c.see_fields.result in
+    let under : seen < 2 ^ g.row.W = omega (arith, c.pow2.ensures, c.if-pow2-see_fields.false) in
+    pack_passes g.row.W (2 ^ g.row.W - 1) a.xs.now a.bytes (c.if-bytes-packed_size.false ∙ c.packed_size.ensures)
+    (sym (c.see_fields.ensures.1 g.row.W c.requires.0) ∙ lt-ltb seen (2 ^ g.row.W) under)

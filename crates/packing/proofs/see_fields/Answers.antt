@@ -7,5 +7,5 @@ pub returns : goal.returns
 returns c =
     let fields = c.args.fields.now in (
       search rules,
-      λ w h. rw c.wide.ensures (see_largest w c.largest.result fields h c.largest.ensures),
+      λ w h. rw c.from.ensures (see_largest w c.largest.result fields h c.largest.ensures),
     )

@@ -1,16 +1,10 @@
--- `packing::see_groups` meets its contract. The loop's invariant: the fields of g groups are seen. The measure is how
+-- `packing::see_groups`: the fields of g groups are seen.
 use mathlib.Core.Path.{◌≡◌}
-use Prim.Native.Nat.{◌-◌, ◌*◌, ◌^◌, ◌<◌, ◌≤◌}
+use Prim.Native.Nat.{◌-◌, ◌*◌, ◌^◌, ◌<◌}
 use lib.Dec.{ltb}
 use Rattle.packing.specs.Packing.{number, digits, all_below}
 use Rattle.packing.proofs.see_groups.Given as goal
 
 abbrev pub invariant-loop-g : goal.invariant-loop-g
 invariant-loop-g l =
-    (l.g ≤ l.groups)
-    × (l.i ≡ l.g * l.w)
-    × (l.seen < 512)
-    × (ltb l.seen (2 ^ l.w) ≡ all_below (2 ^ l.w - 1) (digits l.w (l.g * 8) (number 8 l.packed)))
-
-abbrev pub decreases-loop-g : goal.decreases-loop-g
-decreases-loop-g l = l.groups - l.g
+    (l.seen < 512) × (ltb l.seen (2 ^ l.w) ≡ all_below (2 ^ l.w - 1) (digits l.w (l.g * 8) (number 8 l.packed)))

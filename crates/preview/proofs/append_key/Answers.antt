@@ -13,23 +13,23 @@ use Rattle.preview.proofs.append_key.Goals as goal
 pub overflow_add-hertz : goal.overflow_add-hertz
 overflow_add-hertz c = omega (arith, key_length c.args.p, c.requires.room)
 
-pub slice_bounds-copy-end : goal.slice_bounds-copy-end
-slice_bounds-copy-end c = omega (arith, key_length c.args.p, c.requires.room)
+pub slice_bounds-copy_from_slice-end : goal.slice_bounds-copy_from_slice-end
+slice_bounds-copy_from_slice-end c = omega (arith, key_length c.args.p, c.requires.room)
 
 -- the bytes after the letters are copied
 abbrev lettered : After-write_decimal-arg-1 → List ℕ
 lettered c =
     let at = c.args.at in
     let out = c.args.out.now in
-    take at out ++ (c.copy.new.to ++ drop (at + 5 - at) (drop at out))
+    take at out ++ (c.copy_from_slice.new.self ++ drop (at + 5 - at) (drop at out))
 
 letters-put : (c : After-write_decimal-arg-1) →
     let a = c.args in
     Appended a.out.now a.at (letters a.p) (lettered c) (a.at + 5)
 letters-put c =
-    put_part c.args.out.now c.copy.new.to (letters c.args.p) c.args.at
+    put_part c.args.out.now c.copy_from_slice.new.self (letters c.args.p) c.args.at
     (c.args.at + 5)
-    c.copy.ensures refl (omega (arith, key_length c.args.p, c.requires.room))
+    c.copy_from_slice.ensures.after refl (omega (arith, key_length c.args.p, c.requires.room))
 
 pub write_decimal-end-requires : goal.write_decimal-end-requires
 write_decimal-end-requires c =

@@ -1,16 +1,16 @@
--- `preview::hold_lines` meets its contract: the lines that were passed are stored, and a line is next or none is.
+-- `preview::hold_lines` meets its contract: the lines that were passed are stored.
 use mathlib.Core.Path.{◌≡◌}
-use Prim.Native.Nat.{◌-◌}
+use Prim.Native.Nat.{◌-◌, ◌≤◌}
 use lib.ListN.{length}
 use Rattle.profile.specs.Table.{table_of}
 use Rattle.store.specs.Stored.{store_size, stored}
-use Rattle.preview.specs.Preview.{LineAt}
 use Rattle.preview.proofs.CutLaws.{Left}
 use Rattle.preview.proofs.hold_lines.Given as goal
 
-abbrev pub invariant-loop-at : goal.invariant-loop-at
-invariant-loop-at l =
-    LineAt l.input l.at l.end × Left (table_of l.table) l.input (stored l.initial.store) l.at (stored l.store) × (length l.store ≡ store_size)
+abbrev pub invariant-loop-end : goal.invariant-loop-end
+invariant-loop-end l =
+    (l.at ≤ length l.input) × Left (table_of l.table) l.input (stored l.initial.store) l.at (stored l.store)
+    × (length l.store ≡ store_size)
 
-abbrev pub decreases-loop-at : goal.decreases-loop-at
-decreases-loop-at l = length l.input - l.at
+abbrev pub decreases-loop-end : goal.decreases-loop-end
+decreases-loop-end l = length l.input - l.at

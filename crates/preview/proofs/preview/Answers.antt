@@ -21,7 +21,6 @@ use Rattle.preview.proofs.EntryLaws.{
   lent_refused,
   previews_done,
 }
-use borrow.Author.Rules.{rules}
 use Rattle.preview.proofs.preview.Goals.{After-hold_lines}
 use Rattle.preview.proofs.preview.Goals as goal
 
@@ -61,7 +60,7 @@ room held = reached_room (classes held) (calls held) (held_in held) (reached hel
 
 pub append_rows-requires : goal.append_rows-requires
 append_rows-requires c =
-    let header = c.append_text-at.ensures in record { store_len = search rules; room = record { room = omega (arith, room (goal.at.append_rows-requires c).After-hold_lines, header.place, appended_length header) } }
+    let header = c.append_text-at.ensures in record { room = omega (arith, room (goal.at.append_rows-requires c).After-hold_lines, header.place, appended_length header) }
 
 pub returns : goal.returns
 returns c =

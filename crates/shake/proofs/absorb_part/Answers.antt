@@ -7,17 +7,8 @@ use native.Mathlib.Omega.{arith}
 use lib.ListN.{length, drop}
 use Rattle.keccak.specs.Keccak.{keccak_f}
 use Rattle.shake.specs.InnerFold.{sponge, absorb_bytes}
-use Rattle.shake.proofs.Lanes.{length_cut}
 use Rattle.shake.proofs.Blocks.{absorb_bytes_block, absorb_bytes_last}
 use Rattle.shake.proofs.absorb_part.Goals as goal
-
-pub loop-next-init : goal.loop-next-init
-loop-next-init c = (omega arith, refl, omega arith, refl)
-
-pub xor_part-requires : goal.xor_part-requires
-xor_part-requires c =
-    let args = c.args in
-    omega (arith, length_cut args.part.now c.loop-next.i (c.loop-next.i + (args.rate - c.loop-next.next)) (omega arith))
 
 pub loop-next-preserved : goal.loop-next-preserved
 loop-next-preserved c =
@@ -32,11 +23,6 @@ loop-next-preserved c =
           ∙ sym (absorb_bytes_block c.loop-next.lanes c.loop-next.next args.rate part i end (omega arith) refl (omega arith))
           ∙ c.loop-next.invariant.3,
     )
-
-pub xor_part-requires-2 : goal.xor_part-requires-2
-xor_part-requires-2 c =
-    let part = c.args.part.now in
-    omega (arith, length_cut part c.loop-next.i (length part) (omega arith))
 
 pub returns : goal.returns
 returns c =

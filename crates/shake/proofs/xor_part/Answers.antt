@@ -2,7 +2,7 @@
 use mathlib.Core.Path.{◌≡◌, ◌∙◌, sym, ap}
 use mathlib.Core.List.{List}
 use Prim.Native.Nat.{ℕ, ◌+◌, ◌-◌, ◌%◌}
-use native.Mathlib.Nat.{add-zero}
+use native.Mathlib.Nat.{add-zero, sub-zero}
 use native.Mathlib.Omega.{arith}
 use lib.ListN.{length, take, drop, length-drop}
 use lib.Seq.{take_all}
@@ -20,5 +20,5 @@ returns c =
     let start : args.at + 0 ≡ args.at = add-zero args.at in
     c.xor_lanes.ensures
     ∙ ap (λ (r : List ℕ). xor_bytes r (args.at + gap) (take (length p - gap) (drop gap p))) c.xor_lane-2.ensures
-    ∙ ap (xor_bytes (xor_bytes s args.at (take (gap - 0) p)) (args.at + gap)) rest
-    ∙ sym (rw start at (xor_bytes_cut s args.at p 0 gap (omega arith) (omega arith)))
+    ∙ ap (xor_bytes (xor_bytes s args.at (take gap p)) (args.at + gap)) rest
+    ∙ sym (rw (start, sub-zero gap) at (xor_bytes_cut s args.at p 0 gap (omega arith) (omega arith)))

@@ -1,31 +1,15 @@
--- `table::is_empty` meets its contract. The invariant: no slot before the place is used. Assumes nothing.
-use mathlib.Core.Path.{refl, ◌∙◌, sym, ap}
-use mathlib.Core.List.{List}
-use Prim.Native.Nat.{ℕ}
-use native.Mathlib.Omega.{arith}
+-- `table::is_empty` meets its contract: no slot is used. Assumes nothing.
+use mathlib.Core.Path.{◌∙◌}
+use mathlib.Core.Bool.{not}
+use borrow.Author.Rules.{rules}
+use borrow.Author.Tests.{tests}
+use Rattle.std.proofs.lemmas.Iterator.{YieldsList-from_slice}
+use Rattle.std.proofs.lemmas.Iterator.Search.{all_from_yields_List}
 use Rattle.store.specs.Stored.{slot_of}
-use Rattle.store.proofs.PlaceLaws.{part_slot}
-use Rattle.table.proofs.StoreLaws.{used_here, unused_more, unused_all}
+use Rattle.table.proofs.StoreLaws.{none_used}
 use Rattle.table.proofs.is_empty.Goals as goal
-
-pub loop-i-init : goal.loop-i-init
-loop-i-init c = (omega arith, refl)
-
-pub returns-then-is_used : goal.returns-then-is_used
-returns-then-is_used c =
-    let i = c.loop-i.i in
-    let image = c.args.store.now in
-    let slot = c.is_used.ensures ∙ ap (λ (bytes : List ℕ). (slot_of bytes).used) (part_slot i image) in
-    used_here image i c.loop-i.invariant.1 (omega arith) (sym slot ∙ c.if-is_used.true)
-
-pub loop-i-preserved : goal.loop-i-preserved
-loop-i-preserved c =
-    let i = c.loop-i.i in
-    let image = c.args.store.now in
-    let slot = c.is_used.ensures ∙ ap (λ (bytes : List ℕ). (slot_of bytes).used) (part_slot i image) in
-    (omega arith, unused_more image i c.loop-i.invariant.1 (omega arith) (sym slot ∙ c.if-is_used.false))
 
 pub returns : goal.returns
 returns c =
-    let image = c.args.store.now in
-    unused_all image c.loop-i.i c.loop-i.invariant.1 (omega arith)
+    all_from_yields_List (λ b. not (slot_of b).used) _ _ c.all.result c.all.ensures.ran (YieldsList-from_slice c.slots.result.now cc) (λ x b q k. search (rules, tests))
+    ∙ none_used c.args.store.bytes.now c.slots.ensures.slots

@@ -7,7 +7,6 @@ use Rattle.evaluate.proofs.rewrite.append_field.Goals as goal
 
 pub returns : goal.returns
 returns c =
-    let copy = c.copy in
     let a = c.args in
-    put_part a.out.now copy.new.to a.field.now a.at (a.at + length a.field.now) copy.ensures refl
-    c.requires.room
+    put_part a.out.now c.copy_from_slice.new.self a.field.now a.at (a.at + length a.field.now)
+    c.copy_from_slice.ensures.after refl c.requires.room

@@ -6,20 +6,20 @@ use native.Mathlib.Omega.{arith}
 use lib.IntN.{nat_abs}
 use Rattle.formula.specs.Grammar.{most_step}
 use Rattle.evaluate.specs.Evaluate.{is_limit}
-use Rattle.evaluate.proofs.TextLaws.{kept, numeral_short, put_number_lem}
+use Rattle.evaluate.proofs.TextLaws.{kept, numeral_short, put_number}
 use Rattle.evaluate.proofs.rewrite.put_field.Goals as goal
 
 pub append_numeral-requires-clause-room : goal.append_numeral-requires-clause-room
 append_numeral-requires-clause-room c =
-    let z = c.in-Value.z in
-    let small : nat_abs z ≤ most_step = c.in-Value.ensures.small in
-    rw (kept z small) (record { room = omega (arith, numeral_short z small, c.requires.field_in_bounds) })
+    let z = c.in_ok-number.number in
+    let small : nat_abs z ≤ most_step = c.in_ok-number.ensures.small in
+    rw (kept z small) (record { room = omega (arith, numeral_short z small, c.requires) })
 
-pub returns-in-Value : goal.returns-in-Value
-returns-in-Value c =
+pub returns : goal.returns
+returns c =
     let a = c.args in
-    let z = c.in-Value.z in
-    let small : nat_abs z ≤ most_step = c.in-Value.ensures.small in
+    let z = c.in_ok-number.number in
+    let small : nat_abs z ≤ most_step = c.in_ok-number.ensures.small in
     let limited : is_limit a.k ≡ true = sym c.is_limit.ensures ∙ c.if-not-is_limit.false in
-    put_number_lem a.field.now (is_limit a.k) _ z limited (sym c.in-Value.ensures.worth) small
+    put_number a.field.now (is_limit a.k) _ z limited (sym c.in_ok-number.ensures.worth) small
     (rw (kept z small) at c.append_numeral.ensures)

@@ -8,7 +8,6 @@ returns c =
     let p = c.args.p in
     let numbers = c.append_words-trips.ensures in
     let points = c.append_trips.ensures in
-    let made = image_made p c.requires.out_len c.append_head-ratings.ensures numbers.appended points.appended in
     let fits : Fits p =
     record {
       serial = numbers.small.0;
@@ -17,4 +16,4 @@ returns c =
       trips = points.trips_fit;
       kinds = c.requires.p_value;
     } in
-    profile_written p made fits
+    profile_written p (image_made p c.requires.out_len c.append_head-ratings.ensures numbers.appended points.appended) fits

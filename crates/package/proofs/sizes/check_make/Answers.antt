@@ -14,7 +14,7 @@ use Rattle.package.proofs.sizes.check_make.Goals as goal
 -- what is to be lent, as the code computes it
 max : (c : After-signature_size) →
     let a = c.args in
-    c.signature_size.result + longest ≡ package_max a.p
+    c.signature_size.result + longest ≡ package_max a.p.sizes
 max c = ap (λ (k : ℕ). k + longest) c.signature_size.ensures
 
 -- ---- needs
@@ -28,7 +28,7 @@ returns-then-private-p c =
     let a = c.args in
     rw (
       eq-eqb (length a.table.now) table_size c.if-table-ne-TABLE_SIZE.false,
-      ne_eqb (length a.private.now) a.p.digest c.if-private-p.true,
+      ne_eqb (length a.private.now) a.p.sizes.digest c.if-private-p.true,
     )
     refl
 
@@ -37,8 +37,8 @@ returns-then-master-p c =
     let a = c.args in
     rw (
       eq-eqb (length a.table.now) table_size c.if-table-ne-TABLE_SIZE.false,
-      eq-eqb (length a.private.now) a.p.digest c.if-private-p.false,
-      ne_eqb (length a.master.now) a.p.seed c.if-master-p.true,
+      eq-eqb (length a.private.now) a.p.sizes.digest c.if-private-p.false,
+      ne_eqb (length a.master.now) a.p.sizes.seed c.if-master-p.true,
     )
     refl
 
@@ -47,25 +47,25 @@ returns-then-salt-p c =
     let a = c.args in
     rw (
       eq-eqb (length a.table.now) table_size c.if-table-ne-TABLE_SIZE.false,
-      eq-eqb (length a.private.now) a.p.digest c.if-private-p.false,
-      eq-eqb (length a.master.now) a.p.seed c.if-master-p.false,
-      ne_eqb (length a.salt.now) a.p.digest c.if-salt-p.true,
+      eq-eqb (length a.private.now) a.p.sizes.digest c.if-private-p.false,
+      eq-eqb (length a.master.now) a.p.sizes.seed c.if-master-p.false,
+      ne_eqb (length a.salt.now) a.p.sizes.digest c.if-salt-p.true,
     )
     refl
 
 pub overflow_add-signature_size : goal.overflow_add-signature_size
 overflow_add-signature_size c =
-    omega (arith, c.signature_size.ensures, signature_bounded c.args.p c.requires)
+    omega (arith, c.signature_size.ensures, signature_bounded c.args.p.sizes c.args.p.sound)
 
 pub returns-then-lent-signature_size : goal.returns-then-lent-signature_size
 returns-then-lent-signature_size c =
     let a = c.args in
     rw (
       eq-eqb (length a.table.now) table_size c.if-table-ne-TABLE_SIZE.false,
-      eq-eqb (length a.private.now) a.p.digest c.if-private-p.false,
-      eq-eqb (length a.master.now) a.p.seed c.if-master-p.false,
-      eq-eqb (length a.salt.now) a.p.digest c.if-salt-p.false,
-      ne_eqb a.lent (package_max a.p) (λ e. c.if-lent-signature_size.true (e ∙ sym (max (goal.at.returns-then-lent-signature_size c).After-signature_size))),
+      eq-eqb (length a.private.now) a.p.sizes.digest c.if-private-p.false,
+      eq-eqb (length a.master.now) a.p.sizes.seed c.if-master-p.false,
+      eq-eqb (length a.salt.now) a.p.sizes.digest c.if-salt-p.false,
+      ne_eqb a.lent (package_max a.p.sizes) (λ e. c.if-lent-signature_size.true (e ∙ sym (max (goal.at.returns-then-lent-signature_size c).After-signature_size))),
     )
     refl
 
@@ -74,9 +74,9 @@ returns c =
     let a = c.args in
     rw (
       eq-eqb (length a.table.now) table_size c.if-table-ne-TABLE_SIZE.false,
-      eq-eqb (length a.private.now) a.p.digest c.if-private-p.false,
-      eq-eqb (length a.master.now) a.p.seed c.if-master-p.false,
-      eq-eqb (length a.salt.now) a.p.digest c.if-salt-p.false,
-      eq-eqb a.lent (package_max a.p) (c.if-lent-signature_size.false ∙ max (goal.at.returns c).After-signature_size),
+      eq-eqb (length a.private.now) a.p.sizes.digest c.if-private-p.false,
+      eq-eqb (length a.master.now) a.p.sizes.seed c.if-master-p.false,
+      eq-eqb (length a.salt.now) a.p.sizes.digest c.if-salt-p.false,
+      eq-eqb a.lent (package_max a.p.sizes) (c.if-lent-signature_size.false ∙ max (goal.at.returns c).After-signature_size),
     )
     refl

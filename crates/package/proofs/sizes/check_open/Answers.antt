@@ -10,32 +10,32 @@ use Rattle.package.proofs.sizes.check_open.Goals as goal
 pub returns-then-key-key_size : goal.returns-then-key-key_size
 returns-then-key-key_size c =
     let a = c.args in
-    rw (ne_eqb a.key (key_size a.p) (λ e. c.if-key-key_size.true (e ∙ sym c.key_size.ensures))) refl
+    rw (ne_eqb a.key (key_size a.p.sizes) (λ e. c.if-key-key_size.true (e ∙ sym c.key_size.ensures))) refl
 
 pub overflow_add-size : goal.overflow_add-size
 overflow_add-size c =
-    omega (arith, c.signature_size-size.ensures, signature_bounded c.args.p c.requires)
+    omega (arith, c.signature_size-size.ensures, signature_bounded c.args.p.sizes c.args.p.sound)
 
 pub returns-then-sealed-size : goal.returns-then-sealed-size
 returns-then-sealed-size c =
     let a = c.args in
     rw (
-      eq-eqb a.key (key_size a.p) (c.if-key-key_size.false ∙ c.key_size.ensures),
-      lt-leb (package_min a.p) a.sealed (omega (arith, c.if-sealed-size.true, c.signature_size-size.ensures)),
+      eq-eqb a.key (key_size a.p.sizes) (c.if-key-key_size.false ∙ c.key_size.ensures),
+      lt-leb (package_min a.p.sizes) a.sealed (omega (arith, c.if-sealed-size.true, c.signature_size-size.ensures)),
     )
     refl
 
 pub overflow_add-size-2 : goal.overflow_add-size-2
 overflow_add-size-2 c =
-    omega (arith, c.signature_size-size.ensures, signature_bounded c.args.p c.requires)
+    omega (arith, c.signature_size-size.ensures, signature_bounded c.args.p.sizes c.args.p.sound)
 
 pub returns-then-sealed-size-2 : goal.returns-then-sealed-size-2
 returns-then-sealed-size-2 c =
     let a = c.args in
     rw (
-      eq-eqb a.key (key_size a.p) (c.if-key-key_size.false ∙ c.key_size.ensures),
-      le-leb (package_min a.p) a.sealed (omega (arith, c.if-sealed-size.false, c.signature_size-size.ensures)),
-      lt-leb a.sealed (package_max a.p) (omega (arith, c.if-sealed-size-2.true, c.signature_size-size.ensures)),
+      eq-eqb a.key (key_size a.p.sizes) (c.if-key-key_size.false ∙ c.key_size.ensures),
+      le-leb (package_min a.p.sizes) a.sealed (omega (arith, c.if-sealed-size.false, c.signature_size-size.ensures)),
+      lt-leb a.sealed (package_max a.p.sizes) (omega (arith, c.if-sealed-size-2.true, c.signature_size-size.ensures)),
     )
     refl
 
@@ -43,8 +43,8 @@ pub returns : goal.returns
 returns c =
     let a = c.args in
     rw (
-      eq-eqb a.key (key_size a.p) (c.if-key-key_size.false ∙ c.key_size.ensures),
-      le-leb (package_min a.p) a.sealed (omega (arith, c.if-sealed-size.false, c.signature_size-size.ensures)),
-      le-leb a.sealed (package_max a.p) (omega (arith, c.if-sealed-size-2.false, c.signature_size-size.ensures)),
+      eq-eqb a.key (key_size a.p.sizes) (c.if-key-key_size.false ∙ c.key_size.ensures),
+      le-leb (package_min a.p.sizes) a.sealed (omega (arith, c.if-sealed-size.false, c.signature_size-size.ensures)),
+      le-leb a.sealed (package_max a.p.sizes) (omega (arith, c.if-sealed-size-2.false, c.signature_size-size.ensures)),
     )
     refl

@@ -1,18 +1,18 @@
--- `commit_all`: after j rounds their states are written, and no draw of theirs was short. Assumes nothing.
+-- `commit_all`: after j rounds no draw of theirs was short, and their states are written. Assumes nothing.
 use mathlib.Core.Path.{◌≡◌}
-use Prim.Native.Nat.{◌+◌, ◌-◌, ◌*◌, ◌≤◌}
+use Prim.Native.Nat.{◌+◌, ◌*◌}
+use lib.ListN.{take}
 use Rattle.outcome.specs.Answer.{first_refusal}
 use Rattle.outcome.specs.Lists.{flat}
 use Rattle.scheme.specs.Round.{round_draws}
 use Rattle.signer.specs.InnerState.{seed_at, round_state}
-use Rattle.signer.proofs.Written.{Written}
 use Rattle.signer.proofs.commit.commit_all.Given as goal
 
 abbrev pub invariant-loop-j : goal.invariant-loop-j
 invariant-loop-j l =
-    (l.j ≤ l.t) × (l.from ≡ l.step * l.j) × (l.at ≡ l.size * l.j)
-    × Written l.at (flat (round_state l.p l.vs l.key (seed_at l.p l.seeds) l.salt) l.j) l.initial.states l.states
-    × (first_refusal (flat (λ i. round_draws l.p (seed_at l.p l.seeds i) l.salt (i + 1)) l.j) ≡ 0)
-
-abbrev pub decreases-loop-j : goal.decreases-loop-j
-decreases-loop-j l = l.t - l.j
+    let p = l.p.sizes in
+    let seed = seed_at p l.seeds in
+    record {
+      passed : first_refusal (flat (λ j. round_draws p (seed j) l.salt (j + 1)) l.j) ≡ 0;
+      written : take (l.size * l.j) l.states ≡ flat (round_state p l.key.vs.now l.key.es.now seed l.salt) l.j;
+    }

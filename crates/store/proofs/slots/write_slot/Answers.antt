@@ -5,4 +5,4 @@ use Rattle.store.proofs.slots.write_slot.Goals as goal
 pub returns : goal.returns
 returns c =
     let a = c.args in
-    slot_written a.i a.profile a.store.now _ c.requires.store_len c.requires.i_lt_capacity c.write_profile.ensures
+    slot_written a.slot.place a.profile a.store.now _ c.requires.store_len a.slot.in_store c.write_profile.ensures

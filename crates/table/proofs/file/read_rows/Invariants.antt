@@ -1,14 +1,12 @@
 -- `table::file::read_rows` meets its contract. The invariant: so many rows are read and stand in the image, and the rest of the
-use mathlib.Core.Path.{◌≡◌}
-use Prim.Native.Nat.{◌-◌}
+-- file is read behind them (`SoFar`). The measure is what is left of the file. Assumes nothing.
 use lib.ListN.{length}
 use Rattle.table.specs.InnerRows.{row_of}
 use Rattle.table.proofs.LoopLaws.{SoFar}
 use Rattle.table.proofs.file.read_rows.Given as goal
 
-abbrev pub invariant-loop-at : goal.invariant-loop-at
-invariant-loop-at l =
-    SoFar l.file (row_of l.before) l.at l.rows l.image × (length l.image ≡ length l.initial.image)
+abbrev pub invariant-loop-rest : goal.invariant-loop-rest
+invariant-loop-rest l = SoFar l.file (row_of l.before) l.rest l.rows l.image
 
-abbrev pub decreases-loop-at : goal.decreases-loop-at
-decreases-loop-at l = length l.file - l.at
+abbrev pub decreases-loop-rest : goal.decreases-loop-rest
+decreases-loop-rest l = length l.rest

@@ -1,6 +1,0 @@
--- `hash2`: parts that are left out are empty. Assumes nothing.
-use mathlib.Core.List.{append-nil}
-use Rattle.hashing.proofs.hash2.Goals as goal
-
-pub returns : goal.returns
-returns c = simp append-nil at c.hash.ensures

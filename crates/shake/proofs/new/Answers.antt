@@ -1,8 +1,0 @@
--- `new` meets its contract. Assumes nothing.
-use borrow.Author.Rules.{rules}
-use Rattle.shake.specs.InnerFold.{absorb_bytes, fresh}
-use Rattle.shake.proofs.new.Goals as goal
-
-pub returns : goal.returns
-unfolding absorb_bytes fresh
-returns c = search rules
