@@ -251,7 +251,7 @@ uint8_t gridprofile_verify(const uint8_t *key, size_t key_len, const uint8_t *me
  * GRIDPROFILE_ROUNDS, first_challenge not 1 to 126 or second_challenge not 0 or 1; with 2 where the
  * draw of the matrix is short; with 3 where the reply has a bad field or with 2 where a draw from
  * its seed is short; last with 4 where commitment or response differs.
- * Stack: 12096 bytes. */
+ * Stack: 12352 bytes. */
 uint8_t gridprofile_verify_round(const uint8_t *key, size_t key_len, const uint8_t *salt,
                                  size_t salt_len, uint32_t round, const uint8_t *commitment_0,
                                  size_t commitment_0_len, const uint8_t *commitment_1,
@@ -283,7 +283,7 @@ uint8_t gridprofile_read_table(const uint8_t *file, size_t file_len, uint8_t *ta
  * GRIDPROFILE_LINE_MIN_BYTES to GRIDPROFILE_LINE_MAX_BYTES, then with 5 where the line breaks a
  * rule; bytes after its line feed do, and so does a class that is not the one that its volts have
  * under the table.
- * Stack: 704 bytes. */
+ * Stack: 768 bytes. */
 uint8_t gridprofile_read_line(const uint8_t *table, size_t table_len, const uint8_t *line,
                               size_t line_len, uint8_t *profile, size_t profile_len);
 

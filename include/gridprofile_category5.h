@@ -106,7 +106,7 @@ uint8_t gridprofile_category5_verify(const uint8_t *key, size_t key_len, const u
  * GRIDPROFILE_CATEGORY5_REPLY_0_BYTES under second challenge 0 and
  * GRIDPROFILE_CATEGORY5_REPLY_1_BYTES under 1, and round is 1 to GRIDPROFILE_CATEGORY5_ROUNDS.
  * Refuses with 1, 3, 2, the reply's 3 or 2, and 4.
- * Stack: 33536 bytes. */
+ * Stack: 33792 bytes. */
 uint8_t gridprofile_category5_verify_round(const uint8_t *key, size_t key_len, const uint8_t *salt,
                                            size_t salt_len, uint32_t round,
                                            const uint8_t *commitment_0, size_t commitment_0_len,

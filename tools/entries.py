@@ -1,7 +1,7 @@
 """The entries check: each listed entry asks for nothing and promises the one definition that the list names, of all
 its arguments and of its answer; its C function promises the same and makes one call, of the entry: the library's function
-of its name, or at a category the method of the library's entries at the sizes of that category; list, exports and header
-agree."""
+of its name, or at a category the method of the library's entries at the sizes of that category. That one lends scratch and
+makes one call, of a function that promises the same; list, exports and header agree."""
 
 import glob
 import os
@@ -17,16 +17,36 @@ HEADER = "include/gridprofile.h"  # those of categories 3 and 5 stand beside it
 EXPORTS = "gridprofile_c"  # the crate of the C interface
 LIBRARY = "gridprofile"  # the crate with the same functions for callers in Rattle, each called by the one for C
 METHODS = (LIBRARY, "entries", "Entries")  # what is the same at each category, a method over the sizes of one
+MADE = METHODS[-1]  # what the module of a category makes
 TESTED = "tiny_sizes"  # exports to the tests alone
+TURNS = "outcome"  # the crate whose `number_in` and `store_length` make numbers of a `Result`
+DRAWS = ("expand", "numbers")  # the module of the draws of a category
 SIZES = "parameters.Categories"  # the definitions of the categories' sizes
+NUMBER_IN, LENGTH_IN = "outcome.Result.number_in", "outcome.Result.length_in"  # and those of a result's number and length
 
 LINE = re.compile(r"(\w+(?:::\w+)+)\s+(\w+|-)\s+(\w+\.\w+\.\w+)", re.A)
 ARRAY = re.compile(r"let mut (\w+) = \[ \d\w* ; ([\w .:()+*/%-]+) \] ; ")
 CALL = re.compile(r"(\w+(?: :: \w+)+) \( ([\w&, ]*)\)(?: ;)?")
+# What the library's function lends beside its parameters: arrays, a part of one, the sizes, a draw, scratch of a category.
+PART = re.compile(r"let (\w+) = & mut (\w+) \[ \. \. (\w+) \. \w+ \] ; ")
+OF_SIZES = re.compile(r"let (\w+) = self \. category \. sizes ; ")
+DRAW = re.compile(r"let (\w+) = (\w+(?: :: \w+)*) \( (?:& )?self \. category(?: \. sizes)? \) ; ")
+SCRATCH = re.compile(r"let mut (\w+) = \w+ \{ category : self \. category((?: , \w+ : & mut \w+)*)(?: ,)? \} ; ")
+CALLED = r"(?P<path>\w+(?: :: \w+)*)(?: :: < (?P<width>\w+) >)? \( (?P<lent>[\w&,. ]*)\)"
+TURNED = (
+    ("", re.compile(rf"{CALLED}(?: ;)?")),
+    ("number_in", re.compile(rf"number_in \( {CALLED} \)")),
+    ("store_length", re.compile(rf"store_length \( {CALLED} , (?P<length>\w+) \)")),
+    ("store_length", re.compile(rf"let (?P<made>\w+) = {CALLED} ; store_length \( (?P=made) , (?P<length>\w+) \)")),
+)
+RESULTS = {"number_in": "Result < ( ) , Refusal >", "store_length": "Result < usize , Refusal >"}
+KEPT = re.compile(r"(\w+)\.new\.category ≡ \1\.old\.category")  # what a function that is lent scratch promises beside
 METHOD_CALL = re.compile(rf"{LIBRARY} :: (category\d+) :: entries \( \) \. (\w+) \( ([\w&, ]*)\)")
 OWN_SIZES = "self.now.category.sizes"  # how a method's contract names the sizes that it is at
 NUMBER_OF_RESULT = ["(", "number_in", "result", ")"]  # a refusal's number, or 0
 ANSWER = ("answer", "", "")
+WHOLE = ("answer", "itself", "")  # of a `Result` that is turned into a number
+AT_SIZES = ("parameter", "self", "now")  # the sizes that a method is at
 RESULT = "result"  # the answer's name in contracts
 
 
@@ -44,6 +64,16 @@ class Contract(NamedTuple):
 class Call(NamedTuple):
     path: tuple
     arguments: list
+
+
+class Body(NamedTuple):
+    """What a function of the library is made of: its one call, and what its answer is turned into a number by."""
+
+    call: Call
+    width: str  # the const parameter of the function called, or nothing
+    turned: str  # `number_in`, `store_length` or nothing
+    length: str  # where an answered length is stored, or nothing
+    held: dict  # what is lent beside the parameters: its name, and the kind of it
 
 
 def shown(path):
@@ -93,18 +123,25 @@ def find(tree, path):
 # ---- what it promises
 
 
-def promise(function):
-    """The tokens of the one `ensures`."""
+def one_ensures(function, may_ask=False, beside=()):
+    """The tokens of the one `ensures`, besides those that stand `beside` it. A function that is lent scratch may have
+    `requires`."""
     name, words = shown(function.path), [word for word, _, _ in function.clauses]
-    if "requires" in words:
+    if "requires" in words and not may_ask:
         raise Problem(f"{name} has a requires")
     if "ghost" in words:
         raise Problem(f"{name} has a ghost clause")
-    if words.count("ensures") != 1:
-        raise Problem(f"{name} has {words.count('ensures') or 'no'} ensures, not one")
-    _, label, tokens = next(clause for clause in function.clauses if clause[0] == "ensures")
-    if label:
-        raise Problem(f"the ensures of {name} has a label, {label}")
+    found = [clause for clause in function.clauses if clause[0] == "ensures" and clause[2] not in beside]
+    if len(found) != 1:
+        raise Problem(f"{name} has {len(found) or 'no'} ensures, not one")
+    if found[0][1] and words.count("ensures") == 1:
+        raise Problem(f"the ensures of {name} has a label, {found[0][1]}")
+    return found[0][2]
+
+
+def promise(function):
+    """The tokens of the one `ensures` of a function that asks for nothing: one name applied to plain arguments."""
+    name, tokens = shown(function.path), one_ensures(function)
     for token in tokens or ("",):
         if token != OWN_SIZES and not re.fullmatch(r"[A-Za-z0-9]\w*(?:\.\w+)?|\(|\)", token):
             raise Problem(f"the ensures of {name} is not one name applied to arguments: it has `{token}`")
@@ -142,10 +179,17 @@ def definition(module, word):
     return f"{place(taken.path)}.{taken.name}"
 
 
+def is_of_results(module, word, name):
+    """`number_in` and `length_in` mean those of a result, and nothing else of the name."""
+    if definition(module, word) != name:
+        raise Problem(f"{word} in {module.file} is {definition(module, word)}, and not {name}")
+
+
 def hides_nothing(function, module, tokens):
     """No parameter or imported operator gives another meaning to the words of a contract."""
     where = f"the ensures of {shown(function.path)}"
-    hidden = {RESULT, tokens[0]} & {parameter for parameter, _ in function.parameters}
+    known = {RESULT, tokens[0], NUMBER_OF_RESULT[1], "length_in"}
+    hidden = known & {parameter for parameter, _ in function.parameters}
     if tokens[0] == RESULT or hidden:
         word = RESULT if tokens[0] == RESULT else hidden.pop()
         raise Problem(f"{word} in {where} is hidden by a parameter or by the answer")
@@ -156,12 +200,13 @@ def hides_nothing(function, module, tokens):
             raise Problem(f"{module.file} imports {taken.local}, which takes a word of {where}")
 
 
-def words_of(tokens):
+def words_of(module, tokens):
     """The arguments of a contract one by one: a word and nothing, or of `x.now`, `x.old`, `x.new` the word and the moment. The
     number of a result is the answer too."""
     tokens = list(tokens)
     for at in range(len(tokens) - len(NUMBER_OF_RESULT), -1, -1):
         if tokens[at : at + len(NUMBER_OF_RESULT)] == NUMBER_OF_RESULT:
+            is_of_results(module, "number_in", NUMBER_IN)
             tokens[at : at + len(NUMBER_OF_RESULT)] = [RESULT]
     for token in tokens:
         if token == OWN_SIZES:
@@ -194,7 +239,7 @@ def contract(function, module):
     tokens = promise(function)
     hides_nothing(function, module, tokens)
     name = definition(module, tokens[0])
-    return Contract(name, [meaning(function, module, word, moment) for word, moment in words_of(tokens[1:])])
+    return Contract(name, [meaning(function, module, word, moment) for word, moment in words_of(module, tokens[1:])])
 
 
 def speaks_of_all(function, arguments):
@@ -388,12 +433,226 @@ def library_function(tree, entry, call):
 
 
 def makes_entries(tree, path):
-    """The function of a category's module promises entries at the category's sizes."""
+    """The function of a category's module promises entries at the category's sizes, and makes them of these."""
     function, module = find(tree, path)
     clauses = [(word, label, tokens) for word, label, tokens in function.clauses]
     if function.parameters or clauses != [("ensures", None, ("result.category.sizes", "≡", "p"))]:
         raise Problem(f"{shown(path)} does not promise entries at the sizes p")
+    if not re.fullmatch(rf"{MADE} < [\w ,]+ >", function.result):
+        raise Problem(f"{shown(path)} returns {function.result or 'nothing'}, and not {MADE}")
+    for name, used in ((MADE, ("crate", *METHODS[1:])), ("Category", ("parameters", "Category"))):
+        if [path for path, local in module.uses if local == name] != [used] or name in module.items:
+            raise Problem(f"{name} in {module.file} is not {shown(used)}")
+    if not re.fullmatch(rf"{MADE} {{ category : Category {{ sizes : P(?: ,)? }}(?: ,)? }}", " ".join(function.body)):
+        raise Problem(f"the body of {shown(path)} is not {MADE} of the sizes P")
     has_own_sizes(tree, module)
+
+
+# ---- what the library's function calls
+
+
+def held_by(function):
+    """What a body holds before its one call, by name, and where that call begins."""
+    text, at, held = " ".join(function.body), 0, {}
+    forms = {"array": ARRAY, "part": PART, "sizes": OF_SIZES, "draw": DRAW, "scratch": SCRATCH}
+    while found := next(((kind, let) for kind, form in forms.items() if (let := form.match(text, at))), None):
+        kind, let = found
+        is_free(function, held, let.group(1))
+        if kind == "array" and re.search(r"\w \(", let.group(2)):
+            raise Problem(f"the length of a local array of {shown(function.path)} is a call")
+        for name, wanted in made_of(kind, let):
+            if held.get(name, ("",))[0] != wanted:
+                raise Problem(f"{let.group(1)} in {shown(function.path)} is made of {name}, and not of its own {wanted}")
+        held[let.group(1)] = kind, let.group(2) if kind == "draw" else ""
+        at = let.end()
+    return held, text, at
+
+
+def made_of(kind, let):
+    """What scratch, or a part of an array, is made of: names, and what they have to be."""
+    if kind == "scratch":
+        return [(name, "array") for name in re.findall(r"& mut (\w+)", let.group(2))]
+    return [(let.group(2), "array"), (let.group(3), "sizes")] if kind == "part" else []
+
+
+def is_free(function, held, name):
+    if name in (*held, *(parameter for parameter, _ in function.parameters)):
+        raise Problem(f"a local of {shown(function.path)} hides {name}")
+
+
+def body_of(function):
+    """The body of a function of the library: scratch, and then one call, with its answer turned into a number or not."""
+    held, text, at = held_by(function)
+    turned, found = next(((turned, found) for turned, form in TURNED if (found := form.fullmatch(text, at))), ("", None))
+    lent = [part.strip() for part in found.group("lent").split(",")] if found else []
+    lent = lent if lent[-1:] != [""] else lent[:-1]
+    if not found or not all(re.fullmatch(r"(?:& (?:mut )?)?\w+|\w+ \. \w+", argument) for argument in lent):
+        raise Problem(f"the body of {shown(function.path)} is not scratch and then one call over names")
+    groups = {"made": "", "length": "", **found.groupdict()}
+    if groups["made"]:
+        is_free(function, held, groups["made"])
+    call = Call(tuple(groups["path"].split(" :: ")), lent)
+    return Body(call, groups["width"] or "", turned, groups["length"], held)
+
+
+def led_to(tree, module, path):
+    """Where a path leads whose first name a `use` of the file brings."""
+    used = [to for to, local in module.uses if local == path[0]]
+    if not used:
+        raise Problem(f"{path[0]}, which {module.file} calls, is brought by no `use`")
+    if len(used) != 1 or path[0] in (*module.children, *module.items, *module.names):
+        raise Problem(f"{module.file} gives {path[0]} another meaning")
+    names_a_crate(tree, module, used[0][0])
+    return (*used[0], *path[1:])
+
+
+def calls_as_listed(tree, entry):
+    """The body of the library's function is scratch and then one call, of a function that promises the same."""
+    function, module, promised = keeps(tree, entry.path, entry.contract)
+    body = body_of(function)
+    if body.turned and led_to(tree, module, (body.turned,)) != (TURNS, body.turned):
+        raise Problem(f"{body.turned} in {module.file} is not {TURNS}::{body.turned}")
+    for kind, path in body.held.values():
+        own = (*DRAWS, function.path[-1].removeprefix("sample_"))
+        if kind == "draw" and led_to(tree, module, tuple(path.split(" :: "))) != own:
+            raise Problem(f"{shown(function.path)} draws {path.replace(' ', '')}, and not {shown(own)}")
+    path = body.call.path if len(body.call.path) > 1 else led_to(tree, module, body.call.path)
+    names_a_crate(tree, module, path[0])
+    called, inner = find(tree, path)
+    takes(function, called, body)
+    promises_as_turned(tree, function, promised, body, called, inner)
+
+
+def takes(function, called, body):
+    """The function called has as many parameters, and answers what is turned into the caller's answer. Only one that is lent
+    scratch, or has a width, asks for something."""
+    result = RESULTS.get(body.turned, function.result)
+    fits = called.result == result and (function.result == "u8" or not body.turned)
+    if len(called.parameters) != len(body.call.arguments) or not fits:
+        raise Problem(f"{shown(called.path)} has other parameters or another result than {shown(function.path)} takes")
+    over_scratch = body.held.keys() & set(re.findall(r"\w+", " ".join(body.call.arguments)))
+    if "requires" in [word for word, _, _ in called.clauses] and not (over_scratch or body.width):
+        raise Problem(f"{shown(called.path)}, which {shown(function.path)} calls without scratch, has a requires")
+
+
+def promises_as_turned(tree, function, promised, body, called, inner):
+    """What the function called promises is the caller's promise, over what is lent and with its answer as it is turned."""
+    beside = [tokens for _, _, tokens in called.clauses if KEPT.fullmatch(" ".join(tokens))]
+    tokens = one_ensures(called, may_ask=True, beside=beside)
+    before, tokens = (tokens[1], tokens[6:]) if tokens[2:6] == (":", "ℕ", ")", "→") else ("", tokens)
+    said = list(arguments_of(called, inner, tokens[1:], before, body))
+    hides_nothing(called, inner, [*tokens[:1], *NUMBER_OF_RESULT, *(at(*each[1:]) for each in said if each[0] != "term")])
+    theirs = Contract(definition(inner, tokens[0]), said)
+    given = dict(zip((name for name, _ in called.parameters), body.call.arguments))
+    mine, said = same_promise(tree, function, promised, body, called, theirs, given)
+    over = [lent_for(argument, given, function, body) for argument in said]
+    for own, other in zip_longest(mine, over, fillvalue=("nothing",)):
+        if own != other:
+            says = f"speaks of {' '.join(own).strip()} where {shown(called.path)} has {' '.join(other).strip()}"
+            raise Problem(f"the ensures of {shown(function.path)} {says}")
+
+
+def same_promise(tree, function, promised, body, called, theirs, given):
+    """The arguments of both promises that have to agree. The function called promises the listed definition; or one that the
+    listed is, with the first arguments put in, for a draw or a width that the caller is called after; or one beside it, of a
+    `Result` with a length, and is called as the caller."""
+    if theirs.name == promised.name:
+        return promised.arguments, theirs.arguments
+    name, put = called.path[-1], put_in(tree, promised.name, theirs.name)
+    if put is not None:
+        mine = [argument for argument in promised.arguments if argument != AT_SIZES]
+        if not body.held and function.path[-1] != f"gridprofile_{name}_{body.width.lower()}s":
+            raise Problem(f"{shown(function.path)} is not called after {name} and its width, {body.width or 'which is none'}")
+        puts_in(function, promised, body, zip_longest(theirs.arguments[: -len(mine)], put), given)
+        return mine, theirs.arguments[-len(mine) :]
+    beside = theirs.name.split(".")[:2] == promised.name.split(".")[:2]
+    if beside and body.turned == "store_length" and function.path[-1] == f"gridprofile_{name}":
+        mine = [argument for argument in promised.arguments if argument[:2] != ("parameter", body.length)]
+        return [WHOLE if argument == ANSWER else argument for argument in mine], theirs.arguments
+    raise Problem(f"{shown(function.path)} promises {promised.name}, and {shown(called.path)} {theirs.name}")
+
+
+def put_in(tree, listed, name):
+    """The arguments that a definition puts into another one, which it is by its text; or nothing."""
+    crate, file, word = listed.split(".")
+    crate_of, file_of, head = name.split(".")
+    text = source.text_of(tree.root, f"crates/{crate}/specs/{file}.antt")
+    brought = re.findall(rf"^use Rattle\.{crate_of}\.specs\.{file_of}\.\{{([^}}]*)\}}", text, re.M)
+    near = (crate, file) == (crate_of, file_of) or any(head in re.split(r"[ ,\n]+", words) for words in brought)
+    found = re.findall(rf"^ *{word} = (\S+)( .*)$", text, re.M)
+    if not near or [other for other, _ in found] != [head]:
+        return None
+    return re.findall(r"\([^()]*\)|[^\s()]+", found[0][1])
+
+
+def puts_in(function, promised, body, pairs, given):
+    """What is lent out of the sizes is what the definition puts in there, and it puts in as many as there are."""
+    for argument, put in pairs:
+        if argument is None or put is None:
+            raise Problem(f"{promised.name} puts in another number of arguments than {shown(function.path)} lends")
+        lent = given.get(argument[1], "") if argument[0] == "parameter" else ""
+        kind = body.held.get(lent.split(" . ")[0], ("",))[0]
+        if " . " in lent and (kind != "sizes" or put != f"p.{lent.split(' . ')[1]}"):
+            raise Problem(f"{shown(function.path)} lends `{lent}` for {argument[1]}, where {promised.name} has {put}")
+
+
+def arguments_of(called, module, tokens, before, body):
+    """The arguments in the contract of a function that the library calls: plain ones as in a listed contract, the sizes of
+    scratch, a result's number and the length after it, for every length `before`; of any other term its text."""
+    tokens, kinds = list(tokens), dict(called.parameters)
+    length_after = ["(", "length_in", before, RESULT, ")"]
+    while tokens:
+        if tokens[:4] == NUMBER_OF_RESULT:
+            is_of_results(module, "number_in", NUMBER_IN)
+            size, argument = 4, ANSWER
+        elif before and tokens[:5] == length_after:
+            is_of_results(module, "length_in", LENGTH_IN)
+            size, argument = 5, ("length", "", "new")
+        elif tokens[0] == "(":
+            size = bracket(tokens)
+            argument = "term", " ".join(tokens[:size]), ""
+        elif before and tokens[0] == before:
+            size, argument = 1, ("length", "", "old")
+        else:
+            size, argument = 1, plain(called, module, kinds, tokens[0], body)
+        yield argument
+        tokens = tokens[size:]
+
+
+def plain(called, module, kinds, token, body):
+    """An argument of one token. The const parameter of a function with a width is a term."""
+    word, _, moment = token.partition(".")
+    if moment == "old.category.sizes":
+        return "sizes", word, ""
+    brought = word in kinds or any(taken.local == word for taken in module.imports)
+    if moment not in ("", "now", "old", "new") or (body.width and word[0].isupper() and not brought):
+        return "term", token, ""
+    if word == RESULT and body.turned:
+        return WHOLE
+    return meaning(called, module, word, moment)
+
+
+def bracket(tokens):
+    """How many tokens a bracket has."""
+    depth = 0
+    for at, token in enumerate(tokens):
+        depth += (token == "(") - (token == ")")
+        if depth == 0:
+            return at + 1
+    raise Problem("a bracket of a contract does not end")
+
+
+def lent_for(argument, given, function, body):
+    """What an argument in the contract of the function called says of the caller's own parameters."""
+    kind, word, moment = argument
+    own, lent = [name for name, _ in function.parameters], given.get(word, "")
+    if kind == "length":
+        return "parameter", body.length, moment
+    if kind == "sizes" and body.held.get(lent.removeprefix("& mut "), ("",))[0] == "scratch":
+        return AT_SIZES
+    if kind in ("sizes", "parameter") and (kind == "sizes" or lent not in own):
+        raise Problem(f"{shown(function.path)} lends `{lent}` for {word}, of which the contract speaks")
+    return (kind, lent, moment) if kind == "parameter" else argument
 
 
 # ---- list, exports and header
@@ -487,6 +746,8 @@ def check_entry(tree, entries, entry):
     if entry.c_name != "-":
         yield judged(f"C function {entry.c_name}", c_function, tree, entry)
         yield judged(f"header {entry.c_name}", is_declared, tree.root, entry.c_name)
+    if entry.path[0] == LIBRARY:
+        yield judged(f"call in {name}", calls_as_listed, tree, entry)
 
 
 def check(root):
@@ -507,6 +768,8 @@ def check(root):
     for module in tree.modules():
         if sizes(module):
             yield judged(f"category of {module.file}", of_one_category, tree, module)
+        if sizes(module) and module.path[0] == LIBRARY:
+            yield judged(f"entries of {module.file}", makes_entries, tree, (*module.path, "entries"))
     listed = [entry.c_name for entry in entries]
     for crate, name in tree.exports():
         yield judged(f"export {name}", exported, tree, listed, crate, name)

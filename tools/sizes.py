@@ -1,5 +1,5 @@
 """Text sizes: what firmware takes from the archive when it links some of the entries with --gc-sections, as a list, and
-the check that README says the same."""
+the check that README says the same; and what the archive needs from outside."""
 
 import os
 import re
@@ -13,6 +13,7 @@ import source  # noqa: E402
 ARCHIVE = "target/staticlib/libgridprofile.a"
 LINKED = "target/sizes"
 README = "README.md"
+OUTSIDE = ("memcpy", "memset")  # what a caller without a C library brings
 SLACK = 0.03  # how far README may be off, as a share of what is measured
 
 # A row of README and the entries that it speaks of; none are all of them.
@@ -48,6 +49,22 @@ def text_bytes(root, names):
     flags = ["--gc-sections", "--unresolved-symbols=ignore-all", "-e", functions[0]]
     printed("ld", *flags, *roots, ARCHIVE, "-o", LINKED, cwd=root)
     return int(printed("size", LINKED, cwd=root).splitlines()[1].split()[0])
+
+
+def unresolved(said):
+    """The names that the linker missed, by what it says."""
+    return sorted(set(re.findall(r"undefined reference to `(\w+)'", said)))
+
+
+def outside(root):
+    """What is wrong with what all entries, linked whole, need from outside, or None."""
+    roots = [word for function in functions_of(root, ()) for word in ("-u", function)]
+    brought = [word for name in OUTSIDE for word in ("--defsym", f"{name}=0")]
+    command = ["ld", *brought, "-e", roots[1], *roots, ARCHIVE, "-o", LINKED]
+    linked = subprocess.run(command, cwd=root, text=True, stdout=subprocess.PIPE, stderr=subprocess.STDOUT)
+    if more := unresolved(linked.stdout):
+        return f"beside {' and '.join(OUTSIDE)} it needs {', '.join(more)}"
+    return None if linked.returncode == 0 else f"it cannot be linked: {linked.stdout[:200]}"
 
 
 def stated(text, row):

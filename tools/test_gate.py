@@ -263,6 +263,11 @@ class Sizes(unittest.TestCase):
         self.assertIn(declared, sizes.functions_of(root, ()))
         self.assertRaisesRegex(source.Problem, "category4_load", sizes.functions_of, root, ("load", "category4_load"))
 
+    def test_what_the_linker_missed(self):
+        said = "ld: a.o: in function `x':\n(.text.x+0x1): undefined reference to `memmove'\n" * 2
+        self.assertEqual(sizes.unresolved(said + "y: undefined reference to `bcmp'\n"), ["bcmp", "memmove"])
+        self.assertEqual(sizes.unresolved("ld: warning: cannot find entry symbol"), [])
+
 
 class Stacks(unittest.TestCase):
     HEADER = ("/* Stack: 900 bytes. is no function's. */\n#define A 1\n\n/* The first.\n * Stack: 640 bytes. */\n"
@@ -300,8 +305,8 @@ class Stacks(unittest.TestCase):
         self.assertIn("says 0 times", self.problems("one 640\ntwo 64\nthree 8\n")["stack of three"])
 
 
-# A small repository: an entry that C calls through another crate, one where the sizes of a category decide, and one for
-# callers in Rattle.
+# A small repository: entries that C calls through another crate, one where the sizes of a category decide, and one for
+# callers in Rattle; and the functions that they call, which answer a `Result`.
 ONE = "ensures { One classes 7 line.now out.old count result out.new }"
 TWO = "ensures { Two p block.now out.old result out.new }"
 THREE = "ensures { Three state.old last_word state.new }"
@@ -356,31 +361,90 @@ pub fn three(state: &'a mut [u64], last_word: u8)
 {{
 }}
 """
-LIBRARY = f"""pub mod category1;
-pub mod entries;
+ONE_OF_RESULT = ONE.replace("result", "(number_in result)")
+TURNED = f"""ghost use Rattle.std.specs.Prelude.{{ℕ}};
+ghost use Rattle.outcome.specs.Result.{{number_in, length_in}};
+ghost use Rattle.inner.specs.Promises.{{One, Four, Five, Packs, classes}};
 
-ghost use Rattle.inner.specs.Promises.{{One, classes}};
+use outcome::Refusal;
 
-{HEAD.replace("one", "gridprofile_one")}
-    {ONE}
+{HEAD.replace("-> u8", "-> Result<(), Refusal>")}
+    {ONE_OF_RESULT}
 {{
-    number_in(inner::one(line, out, count))
+    look(line, out, count)
+}}
+
+fn look(line: &[u8], out: &mut [u8], count: u32) -> Result<(), Refusal>
+    {ONE_OF_RESULT}
+{{
+    Ok(())
+}}
+
+pub fn four(line: &[u8], out: &mut [u8]) -> Result<usize, Refusal>
+    ensures {{ (before : ℕ) → Four line.now out.old before (number_in result)
+        out.new (length_in before result) }}
+{{
+    Ok(0)
+}}
+
+pub fn five(line: &[u8], out: &mut [u8]) -> Result<usize, Refusal>
+    ensures {{ Five line.now out.old result out.new }}
+{{
+    Ok(0)
+}}
+
+pub fn pack<const W: usize>(fields: &[u8], packed: &mut [u8]) -> Result<(), Refusal>
+    requires {{ 0 < W }}
+    ensures {{ Packs W (2 ^ W - 1) fields.now packed.old (number_in result) packed.new }}
+{{
+    Ok(())
 }}
 """
 EXPORT = '#[unsafe(no_mangle)]\npub extern "C" fn'
-INTERFACE = f"""pub mod category1;
+FOUR = "ensures { Four line.now out.old length.old result out.new length.new }"
+FIVE, PACKS = FOUR.replace("Four", "FiveTo"), "ensures { PacksBits fields.now packed.old result packed.new }"
+# What C calls: each function's head, contract and body, and that of the function of its name that C has.
+NAMED = (
+    (HEAD.replace("one", "gridprofile_one"), ONE, "number_in(turned::one(line, out, count))", "line, out, count"),
+    ("pub fn gridprofile_four(line: &[u8], out: &mut [u8], length: &mut usize) -> u8", FOUR,
+     "store_length(turned::four(line, out), length)", "line, out, length"),
+    ("pub fn gridprofile_five(line: &[u8], out: &mut [u8], length: &mut usize) -> u8", FIVE,
+     "store_length(turned::five(line, out), length)", "line, out, length"),
+    ("pub fn gridprofile_pack_bits(fields: &[u8], packed: &mut [u8]) -> u8", PACKS,
+     "number_in(turned::pack::<BIT>(fields, packed))", "fields, packed"),
+)
 
-ghost use Rattle.inner.specs.Promises.{{One, classes}};
 
-{HEAD.replace("one", "gridprofile_one").replace("pub fn", EXPORT)}
-    {ONE}
-{{
-    gridprofile::gridprofile_one(line, out, count)
-}}
-"""
+def named(head):
+    return head[len("pub fn ") : head.index("(")]
+
+
+LIBRARY = """pub mod category1;
+pub mod entries;
+
+ghost use Rattle.inner.specs.Promises.{One, Four, FiveTo, PacksBits, classes};
+
+use outcome::{number_in, store_length};
+use turned::BIT;
+""" + "".join(f"\n{head}\n    {ensures}\n{{\n    {body}\n}}\n" for head, ensures, body, _ in NAMED)
+INTERFACE = """pub mod category1;
+
+ghost use Rattle.inner.specs.Promises.{One, Four, FiveTo, PacksBits, classes};
+""" + "".join(
+    f"\n{head.replace('pub fn', EXPORT)}\n    {ensures}\n{{\n    gridprofile::{named(head)}({lent})\n}}\n"
+    for head, ensures, _, lent in NAMED
+)
 TWO_OF_SELF = TWO.replace("Two p", "Two self.now.category.sizes")
+ROOM = """let mut room = [0u8; ROOM];
+        let mut scratch = Scratch {
+            category: self.category,
+            room: &mut room,
+        };"""
 METHODS = f"""ghost use Rattle.std.specs.Prelude.{{◌≡◌}};
 
+use deep::entry::drawn;
+use expand::numbers;
+use outcome::{{number_in, store_length}};
 use parameters::Category;
 
 #[derive(Clone, Copy)]
@@ -390,19 +454,43 @@ pub struct Entries<const ROOM: usize> {{
 }}
 
 impl<const ROOM: usize> Entries<ROOM> {{
-    ghost use Rattle.deep.specs.Entries.{{Two}};
+    ghost use Rattle.outcome.specs.Result.{{number_in}};
+    ghost use Rattle.deep.specs.Entries.{{Two, Makes, SamplesSix}};
 
     pub fn two(&self, block: &[u8], out: &mut [u8]) -> u8
         {TWO_OF_SELF}
     {{
-        let mut scratch = [0u8; ROOM];
-        number_in(deep::two(self.category, block, &mut scratch, out))
+        {ROOM}
+        number_in(deep::entry::two(block, &mut scratch, out))
     }}
 
     pub fn free(&self, block: &[u8], out: &mut [u8]) -> Result<(), Refusal>
         {TWO_OF_SELF.replace("result", "(number_in result)")}
     {{
-        deep::two(self.category, block, &mut [0u8; ROOM], out)
+        {ROOM}
+        deep::entry::two(block, &mut scratch, out)
+    }}
+
+    pub fn made(&self, block: &[u8], out: &mut [u8], length: &mut usize) -> u8
+        ensures {{ Makes self.now.category.sizes block.now out.old length.old result out.new length.new }}
+    {{
+        {ROOM}
+        let package = deep::entry::make(
+            block,
+            &mut scratch,
+            out,
+        );
+        store_length(package, length)
+    }}
+
+    pub fn sample_six(&self, block: &[u8], out: &mut [u8]) -> u8
+        ensures {{ SamplesSix self.now.category.sizes block.now out.old result out.new }}
+    {{
+        let sizes = self.category.sizes;
+        let mut all = [0u8; ROOM];
+        let room = &mut all[..sizes.t];
+        let draw = numbers::six(self.category);
+        number_in(drawn(out, room, block, draw, sizes.w))
     }}
 }}
 
@@ -410,7 +498,37 @@ impl Model for Category {{
     ghost Value = {{ ℕ }};
 }}
 """
+FOR_SCRATCH = TWO.replace("Two p", "Two scratch.old.category.sizes").replace("result", "(number_in result)")
+DEEP = f"""ghost use Rattle.std.specs.Prelude.{{◌≡◌, ◌≤◌, ℕ, length}};
+ghost use Rattle.outcome.specs.Result.{{number_in, length_in}};
+ghost use Rattle.deep.specs.Entries.{{Two, Makes}};
+ghost use Rattle.deep.specs.Draws.{{Draws}};
+
+use outcome::Refusal;
+
+pub fn two(block: &[u8], scratch: &mut Scratch<'_>, out: &mut [u8]) -> Result<(), Refusal>
+    {FOR_SCRATCH}
+{{
+    fill(block, scratch, out)
+}}
+
+pub fn make(block: &[u8], scratch: &mut Scratch<'_>, out: &mut [u8]) -> Result<usize, Refusal>
+    ensures package {{ (before : ℕ) → Makes scratch.old.category.sizes block.now out.old before (number_in result)
+        out.new (length_in before result) }}
+    ensures category {{ scratch.new.category ≡ scratch.old.category }}
+{{
+    Ok(0)
+}}
+
+pub fn drawn(out: &mut [u8], room: &mut [u8], block: &[u8], d: Draw, w: usize) -> Result<(), Refusal>
+    requires {{ d.count ≤ length room.old }}
+    ensures {{ Draws d.width w (length room.old) block.now out.old (number_in result) out.new }}
+{{
+    Ok(())
+}}
+"""
 CATEGORY = """use parameters::CATEGORY1 as P;
+use parameters::Category;
 ghost use Rattle.parameters.specs.Categories.{category1 as p};
 ghost use Rattle.std.specs.Prelude.{◌≡◌};
 
@@ -446,15 +564,44 @@ pub record One (table width : ℕ) (line old : List ℕ) (count answer : ℕ) (n
 
 unfoldable pub Three : List ℕ → ℕ → List ℕ → Type 0
 Three old word new = new ≡ old
+
+abbrev pub Four : List ℕ → List ℕ → ℕ → ℕ → List ℕ → ℕ → Type 0
+Four line old = AnswersFront (checks line) old
+
+pub record Five (line old : List ℕ) (r : Result ℕ) (new : List ℕ) : Type 0 where
+  pub answered : r ≡ answer (checks line) 5
+
+abbrev pub FiveTo : List ℕ → List ℕ → ℕ → ℕ → List ℕ → ℕ → Type 0
+FiveTo line old = AnswersFront (checks line) old
+
+abbrev pub Packs : (w m : ℕ) (fields old : List ℕ) (r : ℕ) (new : List ℕ) → Type 0
+Packs w m fields old = Answers (checks fields) old
+
+abbrev pub PacksBits : (fields old : List ℕ) (r : ℕ) (new : List ℕ) → Type 0
+PacksBits = Packs 1 1
 """
-ENTRIES = """module _ (p : Params)
+ENTRIES = """use Rattle.deep.specs.Draws.{Draws}
+
+module _ (p : Params)
     (q : Params) where
   -- twice
   abbrev pub Two : List ℕ → List ℕ → ℕ → List ℕ → Type 0
   Two block old = Answers (checks p block) old
+
+  abbrev pub Makes : List ℕ → List ℕ → ℕ → ℕ → List ℕ → ℕ → Type 0
+  Makes block old = AnswersFront (checks p block) old
+
+  abbrev pub SamplesSix : List ℕ → List ℕ → ℕ → List ℕ → Type 0
+  SamplesSix = Draws 7 p.w p.t
+"""
+DRAWS = """abbrev pub Draws : ℕ → ℕ → ℕ → List ℕ → List ℕ → ℕ → List ℕ → Type 0
+Draws width w n block old = Answers (checks width w n block) old
 """
 HEADER = """/* uint8_t gridprofile_none(void); */
 uint8_t gridprofile_one(const uint8_t *line, size_t line_len, uint8_t *out, size_t out_len, uint32_t count);
+uint8_t gridprofile_four(const uint8_t *line, size_t line_len, uint8_t *out, size_t out_len, size_t *length);
+uint8_t gridprofile_five(const uint8_t *line, size_t line_len, uint8_t *out, size_t out_len, size_t *length);
+uint8_t gridprofile_pack_bits(const uint8_t *fields, size_t fields_len, uint8_t *packed, size_t packed_len);
 uint8_t gridprofile_two(const uint8_t *block, size_t block_len, uint8_t *out,
                         size_t out_len);
 """
@@ -463,7 +610,14 @@ gridprofile::gridprofile_one  gridprofile_one  inner.Promises.One
 gridprofile::entries::Entries::two  gridprofile_two  deep.Entries.Two
 inner::one  -  inner.Promises.One
 inner::more::three  -  inner.Promises.Three
+gridprofile::gridprofile_four  gridprofile_four  inner.Promises.Four
+gridprofile::gridprofile_five  gridprofile_five  inner.Promises.FiveTo
+gridprofile::gridprofile_pack_bits  gridprofile_pack_bits  inner.Promises.PacksBits
 """
+# Entries for callers in Rattle, which a test lists
+FREE = "gridprofile::entries::Entries::free  -  deep.Entries.Two\n"
+MADE = "gridprofile::entries::Entries::made  -  deep.Entries.Makes\n"
+SIX = "gridprofile::entries::Entries::sample_six  -  deep.Entries.SamplesSix\n"
 CATEGORIES = "abbrev pub category1 : Params\nabbrev pub category3 : Params\n"
 REPOSITORY = {
     entries.LIST: LIST,
@@ -478,12 +632,17 @@ REPOSITORY = {
     "crates/inner/specs/Others.antt": PROMISES,
     "crates/twin/specs/Promises.antt": PROMISES,
     "crates/gridprofile/src/entries.rt": METHODS,
+    "crates/turned/src/lib.rt": TURNED,
+    "crates/deep/src/lib.rt": "pub mod entry;\n",
+    "crates/deep/src/entry.rt": DEEP,
     "crates/deep/specs/Entries.antt": ENTRIES,
+    "crates/deep/specs/Draws.antt": DRAWS,
     "crates/parameters/src/lib.rt": "pub const CATEGORY1: Params = Params { n: 4 };\n",
     "crates/parameters/specs/Categories.antt": CATEGORIES,
 }
 INNER_FILE, MORE_FILE = "crates/inner/src/lib.rt", "crates/inner/src/more.rt"
-METHODS_FILE = "crates/gridprofile/src/entries.rt"
+METHODS_FILE, DEEP_FILE = "crates/gridprofile/src/entries.rt", "crates/deep/src/entry.rt"
+TURNED_FILE = "crates/turned/src/lib.rt"
 INTERFACE_FILE, C_CATEGORY_FILE = "crates/gridprofile_c/src/lib.rt", "crates/gridprofile_c/src/category1.rt"
 LIBRARY_FILE, CATEGORY_FILE = "crates/gridprofile/src/lib.rt", "crates/gridprofile/src/category1.rt"
 PROMISES_FILE, ENTRIES_FILE = "crates/inner/specs/Promises.antt", "crates/deep/specs/Entries.antt"
@@ -740,8 +899,24 @@ class CFunctions(Repository):
         promises("has 2 ensures", TWO_OF_SELF + TWO_OF_SELF)
         promises("has a label", TWO_OF_SELF.replace("ensures", "ensures named"))
         promises("has a requires", "requires { Odd count }\n        " + TWO_OF_SELF)
-        self.refuses("entries.rt imports Free as Two", METHODS_FILE, "{Two}", "{Free as Two}")
+        self.refuses("entries.rt imports Free as Two", METHODS_FILE, "{Two,", "{Free as Two,")
         self.refuses("promises twin.Entries.Two", METHODS_FILE, "Rattle.deep", "Rattle.twin")
+
+    def test_the_function_called_promises_the_same_name(self):
+        self.refuses("promises deep.Entries.Two, and deep::entry::two deep.Entries.Too", DEEP_FILE, "Two", "Too")
+        self.refuses("and deep::entry::two twin.Entries.Two", DEEP_FILE, "Rattle.deep", "Rattle.twin")
+        self.refuses("entry.rt imports Free as Two", DEEP_FILE, "{Two,", "{Free as Two,")
+        self.refuses("deep::entry::two has 2 ensures", DEEP_FILE, FOR_SCRATCH, FOR_SCRATCH + FOR_SCRATCH)
+        self.refuses("has a label", DEEP_FILE, FOR_SCRATCH, FOR_SCRATCH.replace("ensures", "ensures named"))
+        self.refuses("deep::entry::two has no ensures", DEEP_FILE, FOR_SCRATCH, "")
+        self.refuses("and turned::one inner.Promises.Four", TURNED_FILE, "{ One classes 7", "{ Four")
+
+    def test_it_may_keep_the_category_of_scratch(self):
+        made, kept = {entries.LIST: LIST + MADE}, "scratch.new.category ≡ scratch.old.category"
+        self.assertEqual(self.problems(**made), [])
+        for other in ("scratch.new.category ≡ scratch.new.category", "scratch.old.category ≡ scratch.old.category", "⊤"):
+            self.refuses("deep::entry::make has 2 ensures", DEEP_FILE, kept, other, **made)
+        self.refuses("has a ghost clause", DEEP_FILE, "    ensures category", "    ghost { ⊥ }\n    ensures category", **made)
 
     def test_of_the_same_arguments(self):
         old, new = "line.now out.old", "out.old line.now"
@@ -754,16 +929,125 @@ class CFunctions(Repository):
         for one, three in (("classes 7", "classes 3"), ("out.new", "out.new 3")):
             self.refuses(f"{said} number 3", LIBRARY_FILE, one, three)
         self.refuses("other parameters", INTERFACE_FILE, "(line, out, count)", "(line, out)")
+        said = "gridprofile::gridprofile_one speaks of"
+        self.refuses(f"{said} parameter out old", LIBRARY_FILE, old, new)
+        self.refuses(f"{said} number 3", LIBRARY_FILE, "classes 7", "classes 3")
+        self.refuses(f"{said} number 7", LIBRARY_FILE, "classes 7", "7 classes")
+        self.refuses(f"{said} number 8", LIBRARY_FILE, "out.new", "out.new 8")
+        self.refuses("speaks of parameter line now where turned::one has", TURNED_FILE, old, new)
+        for one, three in (("classes 7", "classes 3"), ("out.new", "out.new 3")):
+            c, says = {INTERFACE_FILE: INTERFACE.replace(one, three)}, f"{said} number 3 where turned::one has"
+            self.refuses(says, LIBRARY_FILE, one, three, **c)
+        self.refuses("turned::one has other parameters", LIBRARY_FILE, "turned::one(line, out, count)", "turned::one(line, out)")
+
+    def test_of_the_answer_as_it_is_turned(self):
+        said = "other parameters or another result"
+        for result in ("u8", "Result<usize, Refusal>", "Result<(), Other>"):
+            self.refuses(f"turned::one has {said}", TURNED_FILE, "count: u32) -> Result<(), Refusal>", f"count: u32) -> {result}")
+        self.refuses(f"turned::four has {said}", TURNED_FILE, "Result<usize, Refusal>", "Result<(), Refusal>")
+        self.refuses("speaks of answer where turned::one has answer itself", TURNED_FILE, "(number_in result)", "result")
+        self.refuses("speaks of answer where turned::one has term ( number_of result )", TURNED_FILE, "number_in r", "number_of r")
+        self.refuses(f"turned::one has {said}", LIBRARY_FILE, "number_in(turned::one(line, out, count))",
+                     "turned::one(line, out, count)")
+        four = "store_length(turned::four(line, out), length)"
+        self.refuses(f"turned::four has {said}", LIBRARY_FILE, four, "number_in(turned::four(line, out))")
+        says = "speaks of parameter length old where turned::four has"
+        self.refuses(says, LIBRARY_FILE, four, four.replace("length)", "line)"))
+        self.refuses(f"{says} number 7", TURNED_FILE, "out.old before", "out.old 7")
+        says = "speaks of parameter length new where turned::four has"
+        self.refuses(f"{says} parameter length old", TURNED_FILE, "(length_in before result)", "before")
+        self.refuses(f"{says} term ( length_in 7 result )", TURNED_FILE, "length_in before", "length_in 7")
+        made = {entries.LIST: LIST + MADE}
+        self.refuses("call", METHODS_FILE, "store_length(package", "store_length(out", **made)
+        self.refuses("hides block", METHODS_FILE, "let package", "let block", "(package", "(block", **made)
+
+    def test_what_makes_a_number_of_a_result(self):
+        free, other = {entries.LIST: LIST + FREE}, "Rattle.outcome.specs.Others"
+        said = "is outcome.Others.number_in, and not outcome.Result.number_in"
+        self.refuses(said, METHODS_FILE, "Rattle.outcome.specs.Result", other, **free)
+        self.refuses(said, TURNED_FILE, "Rattle.outcome.specs.Result", other)
+        self.refuses("imports number_in 0 times", METHODS_FILE, "ghost use Rattle.outcome.specs.Result.{number_in};", "", **free)
+        self.refuses("imports number_of as number_in", METHODS_FILE, "{number_in};", "{number_of as number_in};", **free)
+        said = "is outcome.Others.length_in, and not outcome.Result.length_in"
+        self.refuses(said, TURNED_FILE, "{number_in, length_in}", "{number_in};\nghost use " + other + ".{length_in}")
+        self.refuses("number_in in the ensures of turned::one is hidden", TURNED_FILE, "count: u32", "number_in: u32",
+                     "out.old count", "out.old number_in")
+        self.refuses("takes a word of the ensures of turned::one", TURNED_FILE, "{ℕ}", "{ℕ, ◌number_in◌}")
+        for name, other in (("number_in", "store_length"), ("store_length", "number_in")):
+            said = f"{name} in crates/gridprofile/src/lib.rt is not outcome::{name}"
+            self.refuses(f"{name}, which crates/gridprofile/src/lib.rt calls", LIBRARY_FILE,
+                         "use outcome::{number_in, store_length};", f"use outcome::{other};")
+            self.refuses(said, LIBRARY_FILE, "use outcome::{number_in, store_length};",
+                         f"use outcome::{other};\nuse turned::{name};")
+            self.refuses(f"gives {name} another meaning", LIBRARY_FILE, "use turned::BIT;", f"use turned::BIT;\nfn {name}() {{}}")
 
     def test_of_the_same_definitions(self):
-        imports = "{One};\nghost use Rattle.inner.specs.Others.{classes}"
-        for file, said in ((INTERFACE_FILE, "speaks of"), (LIBRARY_FILE, "where gridprofile::gridprofile_one has")):
-            self.refuses(f"{said} definition inner.Others.classes", file, "{One, classes}", imports)
+        imports = "};\nghost use Rattle.inner.specs.Others.{classes}"
+        for file, said in ((INTERFACE_FILE, "speaks of"), (LIBRARY_FILE, "where gridprofile::gridprofile_one has"),
+                           (LIBRARY_FILE, "gridprofile::gridprofile_one speaks of"), (TURNED_FILE, "where turned::one has")):
+            self.refuses(f"{said} definition inner.Others.classes", file, ", classes}", imports)
+
+    def test_of_a_definition_that_the_listed_is(self):
+        said = "promises inner.Promises.PacksBits, and turned::pack inner.Promises.Packs"
+        for old, new in (("PacksBits = Packs 1", "PacksBits = Packed 1"), ("PacksBits = Packs 1 1", "PacksBits = f (Packs 1 1)")):
+            self.refuses(said, PROMISES_FILE, old, new)
+        said = "gridprofile_pack_bits is not called after pack and its width"
+        self.refuses(said, LIBRARY_FILE, "::<BIT>", "::<VALUE>")
+        self.refuses("turned::pack, which gridprofile::gridprofile_pack_bits calls without", LIBRARY_FILE, "::<BIT>", "")
+        self.refuses("speaks of parameter fields now where turned::pack has parameter packed old", TURNED_FILE,
+                     "fields.now packed.old", "packed.old fields.now")
+        self.refuses("parameter fields now where turned::pack has number 7", TURNED_FILE, "fields.now", "7")
+        self.refuses("has other parameters", LIBRARY_FILE, "(fields, packed))", "(fields))")
+        six = {entries.LIST: LIST + SIX}
+        self.assertEqual(self.problems(**six), [])
+        said = "promises deep.Entries.SamplesSix, and deep::entry::drawn deep.Draws.Draws"
+        self.refuses(said, ENTRIES_FILE, "= Draws 7", "= Drawn 7", **six)
+        lent = "lends `sizes . w` for w, where deep.Entries.SamplesSix has p.t"
+        self.refuses(lent, ENTRIES_FILE, "p.w p.t", "p.t p.w", **six)
+        self.refuses("lends `sizes . t` for w, where", METHODS_FILE, "draw, sizes.w", "draw, sizes.t", **six)
+        self.refuses("lends `draw . w` for w, where", METHODS_FILE, "draw, sizes.w", "draw, draw.w", **six)
+        for put in ("Draws 7 p.w", "Draws 7 p.w p.t 3"):
+            self.refuses("SamplesSix puts in another number of arguments", ENTRIES_FILE, "Draws 7 p.w p.t", put, **six)
+        self.refuses(said, ENTRIES_FILE, "use Rattle.deep.specs.Draws", "use Rattle.twin.specs.Draws", **six)
+        self.refuses("where deep::entry::drawn has parameter out old", DEEP_FILE, "block.now out.old (number",
+                     "out.old block.now (number", **six)
+
+    def test_of_a_definition_beside_the_listed(self):
+        said = "promises inner.Promises.FiveTo, and turned::five inner.Promises."
+        fife = {TURNED_FILE: TURNED.replace("fn five", "fn fife")}
+        self.refuses(said.replace("five", "fife") + "Five", LIBRARY_FILE, "turned::five", "turned::fife", **fife)
+        self.refuses("and turned::five inner.Others.Five", TURNED_FILE,
+                     "Five, Packs, classes};", "Packs, classes};\nghost use Rattle.inner.specs.Others.{Five};")
+        self.refuses("where turned::five has parameter out old", TURNED_FILE, "Five line.now out.old", "Five out.old line.now")
+        self.refuses("speaks of answer itself where turned::five has answer", TURNED_FILE,
+                     "out.old result", "out.old (number_in result)")
+        self.refuses("where turned::five has nothing", TURNED_FILE, "result out.new }\n{\n    Ok(0)", "result }\n{\n    Ok(0)")
 
     def test_of_the_arguments_of_the_call(self):
         other = "where gridprofile::entries::Entries::two has parameter out now"
         self.refuses(other, C_CATEGORY_FILE, "(block, out)", "(out, block)")
         self.refuses("other parameters", C_CATEGORY_FILE, "(block, out)", "(block)")
+        other = "where deep::entry::two has parameter out now"
+        self.refuses(other, METHODS_FILE, "(block, &mut scratch, out)", "(out, &mut scratch, block)")
+        self.refuses("deep::entry::two has other parameters", METHODS_FILE, "(block, &mut scratch, out)", "(block, &mut scratch)")
+
+    def test_the_librarys_calls_a_function_that_promises_it(self):
+        said = "promises inner.Promises.One, and turned::four inner.Promises.Four"
+        four = {TURNED_FILE: TURNED.replace("pub fn four(line: &[u8], out: &mut [u8]) -> Result<usize",
+                                            "pub fn four(line: &[u8], out: &mut [u8], count: u32) -> Result<()")}
+        self.refuses(said, LIBRARY_FILE, "turned::one(", "turned::four(", **four)
+        self.refuses("turned::look is not public", LIBRARY_FILE, "turned::one(", "turned::look(")
+        self.refuses("inner::look is not public", LIBRARY_FILE, "turned::one(", "inner::look(")
+        self.refuses("and deep::entry::two deep.Entries.Two", LIBRARY_FILE, "turned::one(", "deep::entry::two(")
+        self.refuses("there is no file for gone", LIBRARY_FILE, "turned::one(", "gone::one(")
+
+    def test_the_function_called_asks_for_scratch_alone(self):
+        asked = f"requires {{ Odd count }}\n    {ONE_OF_RESULT}"
+        said = "turned::one, which gridprofile::gridprofile_one calls without scratch"
+        self.refuses(said, TURNED_FILE, ONE_OF_RESULT, asked)
+        own, asks = "number_in(turned::one(", {TURNED_FILE: TURNED.replace(ONE_OF_RESULT, asked)}
+        self.refuses(said, LIBRARY_FILE, own, f"let mut scratch = [0u8; 3];\n    {own}", **asks)
+        self.assertEqual(self.problems(**{DEEP_FILE: DEEP.replace(FOR_SCRATCH, "requires { Odd block }\n    " + FOR_SCRATCH)}), [])
 
     def test_it_makes_one_call(self):
         call = "gridprofile::gridprofile_one(line, out, count)"
@@ -785,6 +1069,33 @@ class CFunctions(Repository):
             "gridprofile::gridprofile_one(&line[1..], out, count)",
         ):
             self.refuses("call", INTERFACE_FILE, call, body)
+            own = "number_in(turned::one(line, out, count))"
+            body = body.replace(call, own).replace("gridprofile::gridprofile_one", "turned::one")
+            self.refuses("call", LIBRARY_FILE, own, body if own in body or "turned::" not in body else f"number_in({body})")
+        own, call = "number_in(deep::entry::two(block, &mut scratch, out))", "deep::entry::two(block, &mut scratch, out)"
+        for body in (
+            "0",
+            "",
+            "two(block, out)",
+            "self.free(block, out)",
+            f"number_in({call});\n        {own}",
+            f"{own} + 0",
+            f"!{own}",
+            f"let answer = {own};\n        answer",
+            f"let answer = {own};\n        if answer == 2 {{ shake::shake256(block, out); }}\n        answer",
+            f"if block.len() < 1 {{ {own} }} else {{ {own} }}",
+            f"match {own} {{ n => 0 }}",
+            f"out[0] = 1;\n        {own}",
+            f"number_in({call}.or(Ok(())))",
+            f"number_in(Ok({call}))",
+            own.replace("block", "&block[1..]"),
+            own.replace("out", "deep::other(out)"),
+            own.replace("two(", "two::<{ 3 }>("),
+        ):
+            self.refuses("call", METHODS_FILE, own, body)
+        for body in ("0", "", "store_length(turned::four(line, out), &mut 3)", "store_length(turned::four(line, out), length, 1)",
+                     "store_length(turned::four(line, out), length) + 1", "store_length(Ok(7), length)", "*length = 3;\n    0"):
+            self.refuses("call", LIBRARY_FILE, "store_length(turned::four(line, out), length)", body)
         call = "gridprofile::category1::entries().two(block, out)"
         for body in ("0", f"{call};\n    {call}", f"{call} + 0", f"let block = out;\n    {call}", call.replace("()", "(P)"),
                      call.replace("out", "&mut out[1..]"), call.replace("gridprofile::", "crate::")):
@@ -796,6 +1107,39 @@ class CFunctions(Repository):
         self.refuses(lent, INTERFACE_FILE, f"{call}out", f"{scratch}{call}&mut scratch")
         self.refuses("lends `scratch` for line", INTERFACE_FILE, call, scratch + call.replace("line", "scratch"))
         self.refuses("hides line", INTERFACE_FILE, call, scratch.replace("scratch", "line") + call)
+        self.refuses("hides P", INTERFACE_FILE, call, scratch.replace("scratch", "P") + call)
+        own, call = "number_in(turned::one(line, ", "turned::one(line, "
+        self.refuses(lent, LIBRARY_FILE, f"{own}out", f"{scratch}{own}&mut scratch")
+        self.refuses("lends `scratch` for line", LIBRARY_FILE, own, scratch + own.replace("line", "scratch"))
+        self.refuses("hides line", LIBRARY_FILE, own, scratch.replace("scratch", "line") + own)
+        self.refuses("lends `7` for count", LIBRARY_FILE, "turned::one(line, out, count)", "turned::one(line, out, 7)")
+        own = "deep::entry::two(block, &mut scratch, out)"
+        self.refuses(lent, METHODS_FILE, own, "deep::entry::two(block, &mut scratch, &mut scratch)")
+        self.refuses("lends `out` for scratch", METHODS_FILE, own, "deep::entry::two(block, out, &mut scratch)")
+        self.refuses("lends `& mut room` for scratch", METHODS_FILE, own, "deep::entry::two(block, &mut room, out)")
+        self.refuses("lends `scratch` for block", METHODS_FILE, own, "deep::entry::two(scratch, &mut scratch, out)")
+        array = "let mut room = [0u8; ROOM]"
+        for hidden in ("block", "room", "self"):
+            self.refuses(f"hides {hidden}", METHODS_FILE, array, f"{array};\n        let mut {hidden} = [0u8; 3]")
+        self.refuses("length of a local array of gridprofile::entries::Entries::two is a call", METHODS_FILE, array,
+                     "let mut room = [0u8; deep::size()]")
+        self.refuses("made of others, and not of its own array", METHODS_FILE, "room: &mut room", "room: &mut others")
+        self.refuses("call", METHODS_FILE, "category: self.category,\n            room", "category: other,\n            room")
+        self.refuses("call", METHODS_FILE, "category: self.category,\n            room", "room")
+
+    def test_it_makes_its_own_draw(self):
+        six, said = {entries.LIST: LIST + SIX}, "and not expand::numbers::six"
+        for lent in ("self.category.sizes", "&self.category.sizes"):
+            changed = {METHODS_FILE: METHODS.replace("six(self.category)", f"six({lent})")}
+            self.assertEqual(self.problems(**changed, **six), [])
+        self.refuses(said, METHODS_FILE, "numbers::six(", "numbers::seven(", **six)
+        self.refuses(said, METHODS_FILE, "use expand::numbers", "use deep::numbers", **six)
+        self.refuses("brought by no `use`", METHODS_FILE, "use expand::numbers;\n", "", **six)
+        self.refuses("call", METHODS_FILE, "six(self.category)", "six(other)", **six)
+        self.refuses("crate's name expand another", METHODS_FILE, "#[derive", "mod expand {}\n#[derive", **six)
+        self.refuses("gives drawn another meaning", METHODS_FILE, "#[derive", "fn drawn() {}\n#[derive", **six)
+        self.refuses("made of out, and not of its own array", METHODS_FILE, "&mut all[", "&mut out[", **six)
+        self.refuses("made of draws, and not of its own sizes", METHODS_FILE, "[..sizes.t]", "[..draws.t]", **six)
 
     def test_a_crates_name_is_the_crate(self):
         name = "gridprofile"
@@ -804,6 +1148,10 @@ class CFunctions(Repository):
         trees = (f"use other::{{more, part::{{{name}}}}};", f"use other::{{more as {name}, part}};")
         for item in (*blocks, f"mod {name};", *uses, *trees, f"fn {name}() {{}}"):
             self.refuses("crate's name gridprofile another", INTERFACE_FILE, "pub mod", f"{item}\npub mod")
+            item = item.replace(name, "turned")
+            self.refuses("crate's name turned another", LIBRARY_FILE, "use outcome", f"{item}\nuse outcome")
+        self.refuses("there is no file for crate", LIBRARY_FILE, "turned::one(", "crate::one(")
+        self.refuses("there is no file for crate", METHODS_FILE, "deep::entry::two(", "crate::entry::two(")
         self.refuses("crate's name parameters another", CATEGORY_FILE, "const ROOM", "mod parameters {}\nconst ROOM")
 
     def test_the_sizes_are_the_categorys(self):
@@ -818,6 +1166,26 @@ class CFunctions(Repository):
             self.refuses(said, CATEGORY_FILE, own, new)
         self.refuses(said, CATEGORY_FILE, "entries()", "entries(n: usize)")
         self.refuses("entries is not public", CATEGORY_FILE, "pub fn", "fn")
+        self.refuses("lends `P` for count", LIBRARY_FILE, "out, count)", "out, P)")
+
+    def test_a_category_makes_entries_of_its_sizes(self):
+        for result in ("Other<ROOM>", "Entries", "Entries<Entries<ROOM>>", "(Entries<ROOM>, u8)"):
+            said = f"returns {' '.join(source.CODE.findall(result))}, and not Entries"
+            self.refuses(said, CATEGORY_FILE, "-> Entries<ROOM>", f"-> {result}")
+        self.refuses("returns nothing, and not Entries", CATEGORY_FILE, " -> Entries<ROOM>", "")
+        said = "Entries in crates/gridprofile/src/category1.rt is not crate::entries::Entries"
+        for use in ("use crate::others::Entries;", "use deep::entries::Entries;", "use crate::entries::Other as Entries;", ""):
+            self.refuses(said, CATEGORY_FILE, "use crate::entries::Entries;", use)
+        self.refuses(said, CATEGORY_FILE, "const ROOM", "pub struct Entries {}\nconst ROOM")
+        said = "Category in crates/gridprofile/src/category1.rt is not parameters::Category"
+        self.refuses(said, CATEGORY_FILE, "use parameters::Category;", "use deep::Category;")
+        said, own = "is not Entries of the sizes P", "sizes: P }"
+        for new in ("sizes: Q }", "sizes: parameters::CATEGORY3 }", "sizes: other(P) }", "sizes: P, more: 3 }"):
+            self.refuses(said, CATEGORY_FILE, own, new)
+        self.refuses(said, CATEGORY_FILE, "    Entries {\n", "    let P = other();\n    Entries {\n")
+        self.refuses(said, CATEGORY_FILE, "    Entries {\n", "    others();\n    Entries {\n")
+
+    def test_the_file_of_a_category_names_its_sizes(self):
         self.refuses("is not parameters.Categories.category1", C_CATEGORY_FILE, "category1 as p", "category3 as p")
         self.refuses("or other sizes", C_CATEGORY_FILE, "category1 as p", "category1 as p, category3")
         for item in ("use parameters::CATEGORY3 as P;", "const P: usize = 3;"):
@@ -829,6 +1197,15 @@ class CFunctions(Repository):
         self.assertEqual(self.problems(**free), [])
         listed = {entries.LIST: LIST + "gridprofile::entries::Entries::free  -  inner.Promises.One\n"}
         self.refuses("promises deep.Entries.Two", METHODS_FILE, **listed)
+        without = {
+            entries.LIST: LIST.replace(LIST.split("\n")[2] + "\n", "") + FREE,
+            entries.HEADER: HEADER[: HEADER.index("uint8_t gridprofile_two")],
+            C_CATEGORY_FILE: C_CATEGORY[: C_CATEGORY.index("#[")],
+        }
+        self.assertEqual(self.problems(**without), [])
+        self.refuses("is not parameters.Categories.category1", CATEGORY_FILE, "category1 as p", "category3 as p", **without)
+        self.refuses("does not promise entries at the sizes p", CATEGORY_FILE, "sizes ≡ p", "sizes ≡ q", **without)
+        self.refuses("call", METHODS_FILE, "deep::entry::two(block, &mut scratch, out)\n", "Ok(())\n", **free)
         for new in ("number_of result", "number_in result result", "result"):
             self.refuses("an argument, `(`", METHODS_FILE, "(number_in result)", f"({new})", **free)
 

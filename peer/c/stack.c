@@ -1,9 +1,9 @@
 /* How much stack the entries use: each runs on a stack of its own that was filled with a pattern, and the bytes that no
  * longer hold it are counted. A job that does nothing gives the part that is not the library's. The jobs run with a
- * usual line and the built-in classes, and then with the longest line, which has a rate point, and with the longest
- * class table, whose last row its volts have; with formulas as deep as may be that give the same line; the greater use
- * counts. A line for each entry: its name and the bytes. Linked with -z now: else the linker's work at the first memcpy
- * would be counted too. */
+ * usual line, the built-in classes and second challenge 0, and then with the longest line, which has a rate point, the
+ * longest class table, whose last row its volts have, and second challenge 1; with formulas as deep as may be that give
+ * the same line; the greater use counts. A line for each entry: its name and the bytes. Linked with -z now: else the
+ * linker's work at the first memcpy would be counted too. */
 #include <stdint.h>
 #include <stdio.h>
 #include <stdlib.h>
@@ -45,7 +45,7 @@ _Static_assert(sizeof longest_file - 1 == GRIDPROFILE_TABLE_FILE_MAX_BYTES, "no 
  * and byte 7 of a line is its class. */
 static const uint8_t *line, *formulas, *file;
 static size_t line_len, formulas_len, file_len;
-static uint32_t hertz, volts;
+static uint32_t hertz, volts, challenge;
 static const uint8_t country[2] = {'X', 'A'};
 #define CLASS line[7]
 /* The table that the jobs run under, the one that read_table makes, and a store for load_table. */
@@ -66,7 +66,7 @@ static size_t length;
         uint8_t salt[GRIDPROFILE_##C##SALT_BYTES], digest[GRIDPROFILE_##C##DIGEST_BYTES];                              \
         uint8_t key[GRIDPROFILE_##C##KEY_BYTES], signature[GRIDPROFILE_##C##SIGNATURE_BYTES];                          \
         uint8_t package[GRIDPROFILE_##C##PACKAGE_MAX_BYTES], store[GRIDPROFILE_STORE_IMAGE_BYTES];                     \
-        uint8_t reply[GRIDPROFILE_##C##REPLY_0_BYTES];                                                                 \
+        uint8_t reply_0[GRIDPROFILE_##C##REPLY_0_BYTES], reply_1[GRIDPROFILE_##C##REPLY_1_BYTES];                      \
         uint8_t matrix_block[GRIDPROFILE_##C##MATRIX_BLOCK_BYTES], matrix[GRIDPROFILE_##C##MATRIX_VALUES];             \
         uint8_t exponents_block[GRIDPROFILE_##C##EXPONENTS_BLOCK_BYTES];                                               \
         uint8_t mask_block[GRIDPROFILE_##C##MASK_VALUES_BLOCK_BYTES];                                                  \
@@ -97,8 +97,9 @@ BUFFERS(category5_, CATEGORY5_)
         ALL(c##lent.signature)))                                                                                       \
     DO(c, verify, 0, (ALL(c##lent.key), ALL(message), ALL(c##lent.signature)))                                         \
     DO(c, verify_round, 4,                                                                                             \
-       (ALL(c##lent.key), ALL(c##lent.salt), 1, ALL(c##lent.digest), ALL(c##lent.digest), 1, ALL(c##lent.digest), 0,   \
-        ALL(c##lent.reply)))                                                                                           \
+       (ALL(c##lent.key), ALL(c##lent.salt), 1, ALL(c##lent.digest), ALL(c##lent.digest), 1, ALL(c##lent.digest),      \
+        challenge, challenge == 1 ? c##lent.reply_1 : c##lent.reply_0,                                                 \
+        challenge == 1 ? sizeof c##lent.reply_1 : sizeof c##lent.reply_0))                                             \
     DO(c, make_package, 0,                                                                                             \
        (ALL(table), ALL(c##lent.private_seed), ALL(c##lent.master_seed), ALL(c##lent.salt), line, line_len,            \
         ALL(c##lent.package), &c##lent.package_len))                                                                   \
@@ -132,9 +133,10 @@ OF_CATEGORY(JOB, category3_)
 OF_CATEGORY(JOB, category5_)
 OF_NONE(JOB)
 
-static void shake128(void) { gridprofile_shake128(ALL(message), ALL(lent.digest)); }
+/* What comes out is longer than a block of the sponge. */
+static void shake128(void) { gridprofile_shake128(ALL(message), ALL(lent.signature)); }
 
-static void shake256(void) { gridprofile_shake256(ALL(message), ALL(lent.digest)); }
+static void shake256(void) { gridprofile_shake256(ALL(message), ALL(lent.signature)); }
 
 static void nothing(void) {}
 
@@ -182,7 +184,7 @@ static void begin(uint8_t *store)
 }
 
 static void run_all(const char *text, const char *its_formulas, uint32_t its_hertz, uint32_t its_volts,
-                    const char *its_file)
+                    const char *its_file, uint32_t its_challenge)
 {
     begin(lent.store);
     begin(category3_lent.store);
@@ -195,6 +197,7 @@ static void run_all(const char *text, const char *its_formulas, uint32_t its_her
     formulas_len = strlen(its_formulas);
     hertz = its_hertz;
     volts = its_volts;
+    challenge = its_challenge;
     for (size_t at = 0; at < JOBS; at++) {
         size_t bytes = used(jobs[at].job);
         if (bytes > jobs[at].most)
@@ -205,10 +208,10 @@ static void run_all(const char *text, const char *its_formulas, uint32_t its_her
 int main(void)
 {
     size_t base = used(nothing);
-    run_all(usual, usual_formulas, 50, 230, usual_file);
+    run_all(usual, usual_formulas, 50, 230, usual_file, 0);
     if (gridprofile_read_table((const uint8_t *)longest_file, sizeof longest_file - 1, ALL(table)) != 0)
         return 1;
-    run_all(longest, longest_formulas, 60, 1000, longest_file);
+    run_all(longest, longest_formulas, 60, 1000, longest_file, 1);
     for (size_t at = 0; at < JOBS; at++)
         printf("%s %zu\n", jobs[at].name, jobs[at].most - base);
     return 0;

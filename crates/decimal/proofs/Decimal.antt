@@ -70,6 +70,10 @@ pub one_digit : (n : ℕ) → 1 ≤ length (decimal n)
 one_digit =
     by_tenths (λ (n : ℕ). 1 ≤ length (decimal n)) (λ n h. omega (arith, length_small n h)) (λ n h ih. omega (arith, length_more n h))
 
+pub few_digits : (n : ℕ) → length (decimal n) ≤ n + 1
+few_digits =
+    by_tenths (λ (n : ℕ). length (decimal n) ≤ n + 1) (λ n h. omega (arith, length_small n h)) (λ n h ih. omega (arith, length_more n h))
+
 -- a larger number has no fewer digits
 pub length_mono : (n m : ℕ) → m ≤ n → length (decimal m) ≤ length (decimal n)
 length_mono =
@@ -229,6 +233,14 @@ module _ {s : List ℕ} {at value end : ℕ} (so_far : ReadSoFar s at value end)
       let none : drop end s ≡ [] = drop_of_length-le s h in
       let found = ended (ap leading_digits none) in
       record { value = found.0; after = drop-length s ∙ sym none ∙ found.1; within = λ k. omega arith }
+
+-- past the end nothing is left to read, and the place stays
+pub read_past : (s : List ℕ) (at : ℕ) → length s < at → NumberAt s at (record { value = 0; end = at })
+unfolding leading_digits
+read_past s at h =
+    let none : drop at s ≡ [] = drop_of_length-le s (omega arith) in
+    let found = ended (so_far_none s at) (ap leading_digits none) in
+    record { value = found.0; after = found.1; within = λ k. omega arith }
 
 -- ---- reading behind a place
 

@@ -49,10 +49,13 @@ fn with_digit(n: u32, b: u8) -> u32
     n.saturating_mul(10).saturating_add(u32::from(b - b'0'))
 }
 
-// The number that stands at place `at`; 0 where no digit stands there.
+// The number that stands at place `at`; 0 where no digit stands there. From a place past the end nothing is read.
 pub fn read_decimal(s: &[u8], at: usize) -> Number
     ensures { NumberAt s.now at result }
 {
+    if s.len() < at {
+        return Number { value: 0, end: at };
+    }
     let mut value = 0;
     for end in at..s.len() {
         let b = s[end];

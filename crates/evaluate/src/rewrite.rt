@@ -60,7 +60,7 @@ fn append_field(field: &[u8], out: &mut [u8], at: usize) -> usize
     ensures { Appended out.old at field.now out.new result }
 {
     let end = at + field.len();
-    out[at..end].copy_from_slice(field);
+    buffers::copy(&mut out[at..end], field);
     end
 }
 

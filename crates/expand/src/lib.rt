@@ -51,7 +51,7 @@ fn hashed(p: Category, d: Draw, tag: u8, parts: &[&[u8]], out: &mut [u8]) -> Res
 {
     let bytes = d.bytes;
     let mut block = [0u8; parameters::BLOCK];
-    hashing::hash(p, tag, parts, &mut block[..bytes]);
+    hashing::hash(p.sizes.rate, tag, parts, &mut block[..bytes]);
     sampled(d, &block[..bytes], out)
 }
 
@@ -61,7 +61,7 @@ pub fn matrix(p: Category, public: &[u8], block: &mut [u8], vs: &mut [u8]) -> Re
     ensures { Expanded (matrix_drawn p.sizes public.now) (matrix_count p.sizes) (matrixOf p.sizes public.now) (number_in result)
         vs.new }
 {
-    hashing::hash(p, tag::MATRIX, &[public], block);
+    hashing::hash(p.sizes.rate, tag::MATRIX, &[public], block);
     sampled(numbers::matrix(p), block, vs)
 }
 
@@ -73,8 +73,8 @@ pub fn key_exponents(p: Category, secret: &[u8], es: &mut [u8]) -> Result<(), Re
 {
     let bytes = p.sizes.exponents;
     let mut block = [0u8; parameters::EXPONENTS_BLOCK];
-    hashing::hash(p, tag::EXPONENTS, &[secret], &mut block[..bytes]);
-    sampled(numbers::exponents(p), &block[..bytes], es)
+    hashing::hash(p.sizes.rate, tag::EXPONENTS, &[secret], &mut block[..bytes]);
+    sampled(numbers::exponents(p.sizes), &block[..bytes], es)
 }
 
 // e' of round i.
@@ -92,7 +92,7 @@ pub fn mask_exponents(
     let number = round_number(i);
     hashed(
         p,
-        numbers::exponents(p),
+        numbers::exponents(p.sizes),
         tag::EXPONENTS,
         &[seed, salt, &number],
         es,
@@ -114,7 +114,7 @@ pub fn mask_values(
     let number = round_number(i);
     hashed(
         p,
-        numbers::mask_values(p),
+        numbers::mask_values(p.sizes),
         tag::MASK_VALUES,
         &[seed, salt, &number],
         us,
@@ -135,7 +135,7 @@ pub fn first_challenges(
 {
     hashed(
         p,
-        numbers::first_challenges(p),
+        numbers::first_challenges(p.sizes),
         tag::FIRST_CHALLENGES,
         &[c, salt, msg],
         bs,
@@ -175,7 +175,7 @@ pub fn second_challenges<'a>(
     let first = &packed[..size];
     let mut block = [0u8; parameters::SECOND_BLOCK];
     hashing::hash(
-        p,
+        p.sizes.rate,
         tag::SECOND_CHALLENGE,
         &[c, first, h, salt, msg],
         &mut block[..bytes],

@@ -2,7 +2,7 @@
 ghost use Rattle.std.specs.Prelude.{◌≡◌};
 ghost use Rattle.expand.specs.InnerNumbers.{matrix_draw, exponents_draw, mask_draw, first_draw};
 
-use parameters::Category;
+use parameters::{Category, Params};
 use sampling::Draw;
 
 // V: n - k rows of k values.
@@ -21,40 +21,40 @@ pub fn matrix(p: Category) -> Draw
 }
 
 // The exponents of the key, and e' of a round.
-pub fn exponents(p: Category) -> Draw
-    ensures { result ≡ exponents_draw p.sizes }
+pub fn exponents(p: Params) -> Draw
+    ensures { result ≡ exponents_draw p }
 {
     Draw {
         width: 3,
         limit: 7,
         added: 0,
-        count: p.sizes.n,
-        bytes: p.sizes.exponents,
+        count: p.n,
+        bytes: p.exponents,
     }
 }
 
 // The mask values u' of a round.
-pub fn mask_values(p: Category) -> Draw
-    ensures { result ≡ mask_draw p.sizes }
+pub fn mask_values(p: Params) -> Draw
+    ensures { result ≡ mask_draw p }
 {
     Draw {
         width: 7,
         limit: 127,
         added: 0,
-        count: p.sizes.n,
-        bytes: p.sizes.mask,
+        count: p.n,
+        bytes: p.mask,
     }
 }
 
 // The first challenges, 1 to 126.
-pub fn first_challenges(p: Category) -> Draw
-    ensures { result ≡ first_draw p.sizes }
+pub fn first_challenges(p: Params) -> Draw
+    ensures { result ≡ first_draw p }
 {
     Draw {
         width: 7,
         limit: 126,
         added: 1,
-        count: p.sizes.t,
-        bytes: p.sizes.first,
+        count: p.t,
+        bytes: p.first,
     }
 }

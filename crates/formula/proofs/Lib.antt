@@ -6,6 +6,7 @@ pub mod WholeLaws
 pub mod NumberLaws
 pub mod ChainLaws
 pub mod OperatorLaws
+pub mod StepLaws
 pub mod Sound
 pub mod Complete
 pub mod Theorems

@@ -54,7 +54,7 @@ impl<
         ensures { SamplesExponents self.now.category.sizes block.now out.old result out.new }
     {
         let mut scratch = [0u8; DRAWN_PLACES];
-        let draw = numbers::exponents(self.category);
+        let draw = numbers::exponents(self.category.sizes);
         number_in(sample_into(out, &mut scratch, block, draw))
     }
 
@@ -63,7 +63,7 @@ impl<
         ensures { SamplesMaskValues self.now.category.sizes block.now out.old result out.new }
     {
         let mut scratch = [0u8; DRAWN_PLACES];
-        let draw = numbers::mask_values(self.category);
+        let draw = numbers::mask_values(self.category.sizes);
         number_in(sample_into(out, &mut scratch, block, draw))
     }
 
@@ -72,7 +72,7 @@ impl<
         ensures { SamplesFirstChallenges self.now.category.sizes block.now out.old result out.new }
     {
         let mut scratch = [0u8; DRAWN_ROUNDS];
-        let draw = numbers::first_challenges(self.category);
+        let draw = numbers::first_challenges(self.category.sizes);
         number_in(sample_into(out, &mut scratch, block, draw))
     }
 

@@ -29,7 +29,7 @@ pub fn material(
     ensures { Material p.sizes private.now (number_in result) seeds.new vs.new es.new }
 {
     let d = p.sizes.digest;
-    hashing::hash(p, tag::KEY_SEEDS, &[private], seeds);
+    hashing::hash(p.sizes.rate, tag::KEY_SEEDS, &[private], seeds);
     expand::matrix(p, &seeds[d..], block, vs)?;
     expand::key_exponents(p, &seeds[..d], es)
 }
@@ -57,7 +57,8 @@ fn write_key(p: Category, public: &[u8], vs: &[u8], es: &[u8], key: &mut [u8])
 
 // The public key of a private seed into `key`; scratch for V and its block is lent.
 pub fn make_key(private: &[u8], scratch: &mut Scratch<'_>, key: &mut [u8]) -> Result<(), Refusal>
-    ensures { MakesKey scratch.old.category.sizes private.now key.old (number_in result) key.new }
+    ensures key { MakesKey scratch.old.category.sizes private.now key.old (number_in result) key.new }
+    ensures category { scratch.new.category ≡ scratch.old.category }
 {
     let p = scratch.category;
     let n = p.sizes.n;

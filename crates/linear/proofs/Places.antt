@@ -1,5 +1,5 @@
 -- A vector that is known place by place. Assumes nothing.
-use mathlib.Core.Path.{◌≡◌, refl, ◌∙◌, sym}
+use mathlib.Core.Path.{◌≡◌, refl, ◌∙◌, sym, ap}
 use mathlib.Core.List.{List, [], ◌∷◌, zip_with, map}
 use Prim.Native.Nat.{ℕ, zero, suc, ◌<◌}
 use native.Mathlib.Nat.{le_of_suc-le-suc}
@@ -28,3 +28,9 @@ pub map_places : (f : ℕ → ℕ) (a out : List ℕ) → length out ≡ length 
 map_places f a out eo at =
     ext_get_or 0 out (map f a) (eo ∙ sym (length-map a f))
     (λ k h. at k (omega arith) ∙ sym (get_or-map f a k 0 0 (omega arith)))
+
+-- a vector with itself, of which one alone is read
+pub map_zip : (f : ℕ → ℕ) (a : List ℕ) → zip_with (λ x y. f x) a a ≡ map f a
+unfolding zip_with
+map_zip f [] = refl
+map_zip f (x ∷ a) = ap (λ (r : List ℕ). f x ∷ r) (map_zip f a)

@@ -16,7 +16,7 @@ use field::{Exponent, Loose, Value};
 #[tactic(auto, using(crate::proofs::Kept::place_below))]
 fn multiply(b: Value, es: &[u8], out: &mut [u8])
     requires { (length out.old ≡ length es.now) × T (all_below 7 es.now) }
-    ensures { out.new ≡ multiplied b.value es.now }
+    ensures { out.new ≡ multiplied b es.now }
 {
     let products = field::multiples(b);
     for (i, &exponent) in es.iter().enumerate() {
@@ -31,7 +31,7 @@ fn add(u: &[u8], out: &mut [u8])
     ensures { LooseOf (added u.now out.old) out.new }
 {
     for (i, &value) in u.iter().enumerate() {
-        out[i] = field::plus(Loose { value }, Loose { value: out[i] }).value;
+        out[i] = field::plus(Loose(value), Loose(out[i])).0;
     }
 }
 
@@ -41,7 +41,7 @@ pub fn powers(es: &[u8], out: &mut [u8])
     requires { (length out.old ≡ length es.now) × T (all_below 7 es.now) }
     ensures { out.new ≡ powersOf es.now }
 {
-    multiply(Value { value: 1 }, es, out);
+    multiply(Value(1), es, out);
 }
 
 // 2^a times x.
@@ -53,8 +53,8 @@ pub fn scale(a: &[u8], x: &[u8], out: &mut [u8])
 {
     let table = field::product_table();
     for i in 0..a.len() {
-        let exponent = Exponent { exponent: a[i] };
-        out[i] = field::times_power_with(&table, exponent, Value { value: x[i] }).value;
+        let exponent = Exponent(a[i]);
+        out[i] = field::times_power_with(&table, exponent, Value(x[i])).0;
     }
 }
 
@@ -62,7 +62,7 @@ pub fn scale(a: &[u8], x: &[u8], out: &mut [u8])
 pub fn respond(b: Value, u: &[u8], e: &[u8], out: &mut [u8])
     requires { (length out.old ≡ length u.now) × (length e.now ≡ length u.now)
         × T (all_below 127 u.now) × T (all_below 7 e.now) }
-    ensures { LooseOf (response b.value u.now e.now) out.new }
+    ensures { LooseOf (response b u.now e.now) out.new }
 {
     multiply(b, e, out);
     add(u, out);
@@ -76,7 +76,7 @@ pub fn transform(a: &[u8], e: &[u8], out: &mut [u8])
     ensures { out.new ≡ transformation a.now e.now }
 {
     for i in 0..a.len() {
-        out[i] = field::minus(Exponent { exponent: a[i] }, Exponent { exponent: e[i] }).exponent;
+        out[i] = field::minus(Exponent(a[i]), Exponent(e[i])).0;
     }
 }
 
@@ -85,10 +85,10 @@ pub fn transform(a: &[u8], e: &[u8], out: &mut [u8])
 pub fn subtract(b: Value, x: &[u8], s: &[u8], out: &mut [u8])
     requires { (length out.old ≡ length x.now) × (length s.now ≡ length x.now)
         × T (all_below 128 x.now) × T (all_below 127 s.now) }
-    ensures { LooseOf (less_times b.value x.now s.now) out.new }
+    ensures { LooseOf (less_times b x.now s.now) out.new }
 {
     for i in 0..x.len() {
-        out[i] = field::less(b, Loose { value: x[i] }, Value { value: s[i] }).value;
+        out[i] = field::less(b, Loose(x[i]), Value(s[i])).0;
     }
 }
 
@@ -165,7 +165,7 @@ fn rows_times(k: usize, vs: &[u8], x: &[u8], b: &[u8], out: &mut [u8])
         let rest = &vs[k * i..];
         let width = row_width(k, rest.len());
         let sum = row_sum(&rest[..width], &x[..width]);
-        out[i] = field::reduce(sum + b[i] as u16).value;
+        out[i] = field::reduce(sum + b[i] as u16).0;
     }
 }
 
@@ -188,6 +188,6 @@ pub fn normalize(xs: &mut [u8])
     ensures { xs.new ≡ residues xs.old }
 {
     for x in xs.iter_mut() {
-        *x = field::normalize(Loose { value: *x }).value;
+        *x = field::normalize(Loose(*x)).0;
     }
 }

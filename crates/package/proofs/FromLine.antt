@@ -4,7 +4,7 @@ use mathlib.Core.List.{List, [], ◌∷◌, ◌++◌}
 use Prim.Native.Nat.{ℕ}
 use lib.ListN.{length}
 use Rattle.outcome.specs.Answer.{bad_profile, Check, ◌unless◌, first_refusal}
-use Rattle.outcome.specs.Result.{Ok, refusal_in}
+use Rattle.outcome.specs.Result.{Result, Ok, refusal_in}
 use Rattle.outcome.proofs.Results.{result_done}
 use Rattle.outcome.proofs.Checks.{answered, both_passed, passed_front}
 use Rattle.parameters.specs.declared.Params.{Params}
@@ -16,6 +16,10 @@ use Rattle.profile.proofs.Theorems.{writes_read}
 use Rattle.scheme.specs.Sign.{signature_size, sign_checks}
 use Rattle.package.specs.Package.{make_sizes, make_checks, make_from_line_checks}
 use Rattle.package.specs.Entries.{MakesPackage, MakesFromLine}
+
+-- what was read, where reading does not refuse
+pub read_done : {A : Type 0} (x : Result A) → first_refusal (refusal_in x) ≡ 0 → (a : A) × (x ≡ Ok a)
+read_done x e = result_done x e
 
 -- what the answer 0 of making from a line says
 pub record Made (p : Params) (table private master salt line lent : List ℕ) (before : ℕ)
@@ -39,7 +43,7 @@ module _ (p : Params) (table private master salt line : List ℕ) where
       let reading : List Check = refusal_in (read_line (table_of table) line) in
       let all = both_passed (sizes ++ reading) (sign_checks p private master salt line (signature_size p)) e in
       let front = both_passed sizes reading all.0 in
-      let found = result_done (read_line (table_of table) line) front.1 in
+      let found = read_done (read_line (table_of table) line) front.1 in
       let back = writes_read (table_of table) line found.0 found.1 in
       let rule : List Check = bad_profile unless valid (table_of table) found.0 ∷ [] in
       let holds : first_refusal rule ≡ 0 = answered rule (back.1, tt) in

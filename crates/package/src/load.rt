@@ -1,4 +1,5 @@
 // Loading a package: a profile is stored only where its signature holds and it is for this device.
+ghost use Rattle.std.specs.Prelude.{◌≡◌};
 ghost use Rattle.outcome.specs.Result.{number_in};
 ghost use Rattle.profile.specs.Table.{table_of};
 ghost use Rattle.package.specs.Entries.{Opens, LoadsByStore};
@@ -16,7 +17,8 @@ pub fn open(
     sealed: &[u8],
     scratch: &mut Scratch<'_>,
 ) -> Result<Profile, Refusal>
-    ensures { Opens scratch.old.category.sizes (table_of table.now) key.now sealed.now result }
+    ensures profile { Opens scratch.old.category.sizes (table_of table.now) key.now sealed.now result }
+    ensures category { scratch.new.category ≡ scratch.old.category }
 {
     let p = scratch.category;
     sizes::check_open(p, key.len(), sealed.len())?;
@@ -36,8 +38,9 @@ pub fn load(
     hertz: u32,
     scratch: &mut Scratch<'_>,
 ) -> Result<(), Refusal>
-    ensures { LoadsByStore scratch.old.category.sizes key.now sealed.now country.now class hertz
+    ensures store { LoadsByStore scratch.old.category.sizes key.now sealed.now country.now class hertz
         store.old (number_in result) store.new }
+    ensures category { scratch.new.category ≡ scratch.old.category }
 {
     if country.len() != 2 {
         return Err(Refusal::BadDevice);

@@ -1,5 +1,5 @@
 // Making a package: a line is signed, and follows its signature. Each answers the package's length.
-ghost use Rattle.std.specs.Prelude.{ℕ};
+ghost use Rattle.std.specs.Prelude.{◌≡◌, ℕ};
 ghost use Rattle.outcome.specs.Result.{number_in, length_in};
 ghost use Rattle.package.specs.Entries.{Room, Seals, MakesPackage, MakesFromLine};
 
@@ -18,13 +18,14 @@ fn seal(
     out: &mut [u8],
 ) -> Result<usize, Refusal>
     requires { Room scratch.old.category.sizes line.now out.old }
-    ensures { (before : ℕ) → Seals scratch.old.category.sizes private.now master.now salt.now line.now
+    ensures package { (before : ℕ) → Seals scratch.old.category.sizes private.now master.now salt.now line.now
         out.old before (number_in result) out.new (length_in before result) }
+    ensures category { scratch.new.category ≡ scratch.old.category }
 {
     let size = scheme::signature_size(scratch.category);
     let end = size + line.len();
     signer::sign::sign(private, master, salt, line, scratch, &mut out[..size])?;
-    out[size..end].copy_from_slice(line);
+    buffers::copy(&mut out[size..end], line);
     Ok(end)
 }
 
@@ -38,8 +39,9 @@ pub fn make_package(
     scratch: &mut SignScratch<'_>,
     out: &mut [u8],
 ) -> Result<usize, Refusal>
-    ensures { (before : ℕ) → MakesPackage scratch.old.category.sizes table.now private.now master.now salt.now
+    ensures package { (before : ℕ) → MakesPackage scratch.old.category.sizes table.now private.now master.now salt.now
         profile out.old before (number_in result) out.new (length_in before result) }
+    ensures category { scratch.new.category ≡ scratch.old.category }
 {
     sizes::check_make(scratch.category, table, private, master, salt, out.len())?;
     let mut line = [0u8; LONGEST];
@@ -57,8 +59,9 @@ pub fn make_from_line(
     scratch: &mut SignScratch<'_>,
     out: &mut [u8],
 ) -> Result<usize, Refusal>
-    ensures { (before : ℕ) → MakesFromLine scratch.old.category.sizes table.now private.now master.now salt.now
+    ensures package { (before : ℕ) → MakesFromLine scratch.old.category.sizes table.now private.now master.now salt.now
         line.now out.old before (number_in result) out.new (length_in before result) }
+    ensures category { scratch.new.category ≡ scratch.old.category }
 {
     sizes::check_make(scratch.category, table, private, master, salt, out.len())?;
     let _ = read_line(table, line)?;

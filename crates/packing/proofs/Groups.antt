@@ -83,29 +83,45 @@ scatter_more d e at b k v left p h l q s =
 pub group_fits : (g groups x : ℕ) {n : ℕ} → g < groups → groups * x ≤ n → g * x + x ≤ n
 group_fits g groups x h l = omega (arith, mul-le-mul_right x h)
 
--- as many bits stand before group g in both bases
-group_bits : (a b g : ℕ) → a * (g * b) ≡ b * (g * a)
-group_bits a b g = omega arith
+-- groups of x fields of a bits, each as many bits as y of b, stand behind as many bits in both bases
+pub group_bits : (a b x y g i j : ℕ) → a * x ≡ b * y → i ≡ g * x → j ≡ g * y → a * i ≡ b * j
+group_bits a b x y g i j e p q = rw (p, q) (omega (arith, ap (λ (k : ℕ). g * k) e))
 
--- one group more: what was made of the groups before, and the digits v of this one
-pub group_more : (a b : ℕ) {s : List ℕ} (d e : List ℕ) (g v : ℕ) → Below (2 ^ a) s → g * a + a ≤ length e
+-- one group more: what was made of what stands before place i, and the digits v of the group
+pub group_more : (a b : ℕ) {s : List ℕ} (d e : List ℕ) (i j x y v : ℕ) → Below (2 ^ a) s → a * i ≡ b * j → b * y ≤ a * x
+    → j + y ≤ length e → v ≡ number a (take x (drop i s)) → take j e ≡ digits b j (number a s)
+    → d ≡ take j e ++ digits b y v ++ drop (j + y) e
+    → take (j + y) d ≡ digits b (j + y) (number a s)
+group_more a b {s} d e i j x y v h bits l fits q so_far made =
+    let size : length (digits b j (number a s) ++ digits b y v) ≡ j + y =
+    simp (length-append, length_digits) in
+    rw (made, so_far, take_at (digits b j (number a s) ++ digits b y v) (drop (j + y) e) (j + y) size, q)
+    (sym (digits_join a b i j x y h bits l))
+
+-- the last group, which may have fewer fields
+pub group_last : (a b : ℕ) {s : List ℕ} (d e : List ℕ) (i j n v : ℕ) → Below (2 ^ a) s → a * i ≡ b * j
+    → j + n ≡ length e → v ≡ number a (take (length s - i) (drop i s)) → take j e ≡ digits b j (number a s)
+    → d ≡ take j e ++ digits b n v ++ drop (j + n) e
+    → d ≡ digits b (length e) (number a s)
+group_last a b {s} d e i j n v h bits fits q so_far made =
+    rw (made, so_far, q, fits, drop-length, append-nil, take_all (length s - i) (drop i s) (le_of_eq (length-drop i s)))
+    (sym (digits_last a b i j n h bits) ∙ ap (λ (k : ℕ). digits b k (number a s)) fits)
+
+-- the same of whole groups, b fields of a bits for a of b
+whole_bits : (a b g : ℕ) → a * (g * b) ≡ b * (g * a)
+whole_bits a b g = omega arith
+
+pub whole_more : (a b : ℕ) {s : List ℕ} (d e : List ℕ) (g v : ℕ) → Below (2 ^ a) s → g * a + a ≤ length e
     → v ≡ number a (take b (drop (g * b) s)) → take (g * a) e ≡ digits b (g * a) (number a s)
     → d ≡ take (g * a) e ++ digits b a v ++ drop (g * a + a) e
     → take ((g + 1) * a) d ≡ digits b ((g + 1) * a) (number a s)
-group_more a b {s} d e g v h fits q so_far made =
-    let j : ℕ = g * a in
-    let next : (g + 1) * a ≡ j + a = omega arith in
-    let size : length (digits b j (number a s) ++ digits b a v) ≡ j + a =
-    simp (length-append, length_digits) in
-    rw (next, made, so_far, take_at (digits b j (number a s) ++ digits b a v) (drop (j + a) e) (j + a) size, q)
-    (sym (digits_join a b (g * b) j b a h (group_bits a b g) (omega arith)))
+whole_more a b {s} d e g v h fits q so_far made =
+    let next : (g + 1) * a ≡ g * a + a = omega arith in
+    rw next (group_more a b d e (g * b) (g * a) b a v h (whole_bits a b g) (omega arith) fits q so_far made)
 
--- the last group, which may have fewer fields
-pub group_last : (a b : ℕ) {s : List ℕ} (d e : List ℕ) (groups n v : ℕ) → Below (2 ^ a) s → groups * a + n ≡ length e
+pub whole_last : (a b : ℕ) {s : List ℕ} (d e : List ℕ) (groups n v : ℕ) → Below (2 ^ a) s → groups * a + n ≡ length e
     → v ≡ number a (take (length s - groups * b) (drop (groups * b) s)) → take (groups * a) e ≡ digits b (groups * a) (number a s)
     → d ≡ take (groups * a) e ++ digits b n v ++ drop (groups * a + n) e
     → d ≡ digits b (length e) (number a s)
-group_last a b {s} d e groups n v h fits q so_far made =
-    let i : ℕ = groups * b in
-    rw (made, so_far, q, fits, drop-length, append-nil, take_all (length s - i) (drop i s) (le_of_eq (length-drop i s)))
-    (sym (digits_last a b i (groups * a) n h (group_bits a b groups)) ∙ ap (λ (k : ℕ). digits b k (number a s)) fits)
+whole_last a b d e groups n v h fits q so_far made =
+    group_last a b d e (groups * b) (groups * a) n v h (whole_bits a b groups) fits q so_far made

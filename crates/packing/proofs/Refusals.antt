@@ -1,6 +1,6 @@
 -- Which refusal packing and unpacking answer.
 -- Assumes nothing.
-use mathlib.Core.Path.{◌≡◌, ◌∙◌, sym, ap}
+use mathlib.Core.Path.{◌≡◌, refl, ◌∙◌, sym, ap}
 use mathlib.Core.Bool.{true, false}
 use mathlib.Core.List.{List}
 use Prim.Native.Nat.{ℕ, ◌-◌, ◌*◌, ◌/◌, ◌%◌, ◌^◌, ◌<◌, ◌≤◌}
@@ -28,13 +28,18 @@ module _ (w m : ℕ) (xs : List ℕ) (bytes : ℕ) where
   unfolding pack_checks
   pack_passes e f = rw (eq-eqb bytes (size w (length xs)) e, f)
 
--- what a packing of fields below 2 ^ w - 1 that refuses nothing may rely on
-pub packable : (w : ℕ) (xs : List ℕ) (bytes : ℕ) → first_refusal (pack_checks w (2 ^ w - 1) xs bytes) ≡ 0
+  -- what a packing that refuses nothing may rely on
+  pub packable : m ≤ 2 ^ w → first_refusal (pack_checks w m xs bytes) ≡ 0
+      → (bytes ≡ size w (length xs)) × (all_below (2 ^ w) xs ≡ true)
+  unfolding pack_checks
+  packable l e =
+      let held = passed (pack_checks w m xs bytes) e in
+      (eqb→eq bytes (size w (length xs)) held.0, below_test (below_le l (below m xs held.1.0)))
+
+-- the same of fields below 2 ^ w - 1
+pub packable_fields : (w : ℕ) (xs : List ℕ) (bytes : ℕ) → first_refusal (pack_checks w (2 ^ w - 1) xs bytes) ≡ 0
     → (bytes ≡ size w (length xs)) × (all_below (2 ^ w) xs ≡ true)
-unfolding pack_checks
-packable w xs bytes e =
-    let held = passed (pack_checks w (2 ^ w - 1) xs bytes) e in
-    (eqb→eq bytes (size w (length xs)) held.0, below_test (below_le (omega arith) (below (2 ^ w - 1) xs held.1.0)))
+packable_fields w xs bytes e = packable w (2 ^ w - 1) xs bytes (omega arith) e
 
 module _ (w m n : ℕ) (bytes : List ℕ) where
   pub unpack_bad_size : (length bytes ≡ size w n → ⊥) → 1 ≡ first_refusal (unpack_checks w m n bytes)
@@ -96,12 +101,18 @@ packed_passes w m {xs} l b =
     (ap (all_below m) (unpack_pack_below w fits) ∙ below_test b) (pack_spare w fits))
 
 -- an entry that passed its tests and then wrote the digits of the number
-pub pack_done : (w : ℕ) (xs old lent : List ℕ) (n : ℕ) → first_refusal (pack_checks w (2 ^ w - 1) xs (length old)) ≡ 0
+pub pack_done : (w m : ℕ) (xs old lent : List ℕ) (r n : ℕ) → r ≡ first_refusal (pack_checks w m xs (length old)) → r ≡ 0
+    → n ≡ size w (length xs) → lent ≡ digits 8 n (number w xs)
+    → Answers (pack_checks w m xs (length old)) (pack w xs) old 0 lent
+unfolding pack
+pack_done w m xs old lent r n e z l made = done (sym e ∙ z) (made ∙ ap (λ (k : ℕ). digits 8 k (number w xs)) l)
+
+-- the same of fields below 2 ^ w - 1, in a buffer of n bytes
+pub pack_made : (w : ℕ) (xs old lent : List ℕ) (n : ℕ) → first_refusal (pack_checks w (2 ^ w - 1) xs (length old)) ≡ 0
     → n ≡ length old → lent ≡ digits 8 n (number w xs)
     → Answers (pack_checks w (2 ^ w - 1) xs (length old)) (pack w xs) old 0 lent
-unfolding pack
-pack_done w xs old lent n e l made =
-    done e (made ∙ ap (λ (k : ℕ). digits 8 k (number w xs)) (l ∙ (packable w xs (length old) e).0))
+pack_made w xs old lent n e l made =
+    pack_done w (2 ^ w - 1) xs old lent 0 n (sym e) refl (l ∙ (packable_fields w xs (length old) e).0) made
 
 pub unpack_done : (w m : ℕ) (bytes old lent : List ℕ) (n : ℕ) → first_refusal (unpack_checks w m (length old) bytes) ≡ 0
     → n ≡ length old → lent ≡ digits w n (number 8 bytes)

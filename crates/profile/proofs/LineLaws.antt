@@ -2,16 +2,25 @@
 use mathlib.Core.Path.{◌≡◌, refl, ◌∙◌, sym, ap}
 use mathlib.Core.Bool.{true, false, false≢true, ◌&&◌}
 use mathlib.Core.List.{List, [], ◌∷◌, ◌++◌, map, append_assoc, append-nil}
-use Prim.Native.Nat.{ℕ, suc, ◌+◌, max, ◌≤◌}
+use Prim.Native.Nat.{ℕ, suc, ◌+◌, max, ◌≤◌, ◌<◌}
 use native.Mathlib.Omega.{arith}
 use lib.Dec.{eqb, lit≤}
 use lib.Pointwise.{pointwise}
 use lib.ListN.{length, take, drop, get_or, take-append-drop, length-append}
-use lib.Seq.{drop-append_seam}
+use lib.Seq.{drop-append_seam, drop-drop}
 use Rattle.std.proofs.lemmas.Grind.{common_steps}
-use Rattle.decimal.specs.Decimal.{decimal, last_digits, largest, is_digit, leading_number, after_number}
+use Rattle.decimal.specs.Decimal.{
+  decimal,
+  last_digits,
+  largest,
+  is_digit,
+  leading_number,
+  after_number,
+  NumberAt,
+  NumberBehind,
+}
 use Rattle.decimal.specs.declared.Number.{Number}
-use Rattle.decimal.proofs.Decimal.{one_digit, number_before, after_before}
+use Rattle.decimal.proofs.Decimal.{one_digit, number_before, after_before, number_missing, number_found}
 use Rattle.decimal.proofs.Stores.{sets_append, appended_length}
 use Rattle.outcome.specs.Answer.{pick}
 use Rattle.outcome.specs.Lists.{same}
@@ -378,3 +387,21 @@ module _ {line : List ℕ} {serial volts hertz : Number} {over_voltage under_vol
         under_frequency = trip_is after₆ at₇ i;
         rate_of_change = rate_point i;
       }
+
+-- ---- a field's number, behind its lead
+
+module _ (line : List ℕ) (at : ℕ) (kind : Kind) where
+  pub past : drop (length (lead kind)) (drop at line) ≡ drop (at + length (lead kind)) line
+  past = drop-drop (length (lead kind)) at line
+
+  pub field_behind : {r : Number} → NumberBehind line at (length (lead kind)) r → FieldAt line at kind r
+  unfolding field_number after_field
+  field_behind found = record { value = found.value; after = found.after; within = found.within }
+
+  -- nothing stands past the end
+  pub field_missing : length line < at + length (lead kind) → FieldAt line at kind (record { value = 0; end = length line })
+  field_missing h = field_behind (number_missing line at (length (lead kind)) h)
+
+  pub field_found : {r : Number} → at + length (lead kind) ≤ length line → NumberAt line (at + length (lead kind)) r
+      → FieldAt line at kind r
+  field_found h found = field_behind (number_found line at (length (lead kind)) h found)

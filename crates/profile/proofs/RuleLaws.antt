@@ -18,6 +18,14 @@ use Rattle.profile.specs.declared.rules.Kind.TheVariants as kinds
 use Rattle.outcome.specs.Result.{Ok, answer}
 use Rattle.profile.specs.Rules.{Range, ◌to◌, low, high, contains, in_one_of, share, above, below, plain, rate, kind_number, same_kind, number, Field, trip_fields, rate_fields, fields_of, line_kind, one, nominal_hertz, trip_rules, rate_rules, Rule, rules, fits, obeys, Class, class_in, is_class, letters, valid}
 
+-- ---- the ends of a range, under other names
+
+abbrev pub lowest : Range → ℕ
+lowest = low
+
+abbrev pub highest : Range → ℕ
+highest = high
+
 -- ---- tests
 
 pub holds : (b : Bool) → T b → b ≡ true

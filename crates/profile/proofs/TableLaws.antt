@@ -8,10 +8,11 @@ use native.Mathlib.Omega.{arith}
 use lib.Dec.{eqb}
 use lib.ListN.{length}
 use borrow.Author.Tests.{eq-eqb, ne_eqb, eqb-true}
-use Rattle.outcome.specs.Answer.{pick}
+use Rattle.outcome.specs.Answer.{bad_profile, pick}
+use Rattle.outcome.specs.Result.{Ok, Err}
 use Rattle.std.proofs.lemmas.Grind.{common_steps}
 use Rattle.words.specs.Words.{word_at}
-use Rattle.profile.specs.Rules.{Class, classes}
+use Rattle.profile.specs.Rules.{Class, classes, contains, class_in}
 use Rattle.profile.specs.Table.{most_rows, row_size, table_size, rows_used, row_at, rows_from, table_of}
 
 -- ---- how many are used
@@ -95,3 +96,24 @@ module _ {A : Type 0} (asked : List Class → A) (image : List ℕ) (n : ℕ) wh
 
     pub rest_none : n ≤ i → asked [] ≡ asked (rows_from image 0 n)
     rest_none h = sym (ap asked (no_row image i n h)) ∙ before
+
+-- ---- the class of volts, row by row
+
+-- what is found in the rows from place i on is what is found in all
+abbrev pub Found : List ℕ → ℕ → ℕ → ℕ → Type 0
+Found image n volts i = RestAnswers (λ cs. class_in cs volts) image n i
+
+module _ (image : List ℕ) (n volts : ℕ) where
+  pub found_first : Found image n volts 0
+  found_first = rest_first (λ cs. class_in cs volts) image n
+
+  module _ (i : ℕ) (before : Found image n volts i) where
+    pub found_here : i < n → contains (row_at image (4 + row_size * i)).volts volts ≡ true
+        → Ok (word_at image (4 + row_size * i)) ≡ class_in (rows_from image 0 n) volts
+    found_here h here = rest_here (λ cs. class_in cs volts) image n i before h (λ cs. rw here refl)
+
+    pub found_later : i < n → contains (row_at image (4 + row_size * i)).volts volts ≡ false → Found image n volts (i + 1)
+    found_later h other = rest_later (λ cs. class_in cs volts) image n i before h (λ cs. rw other refl)
+
+    pub found_nowhere : n ≤ i → Err bad_profile ≡ class_in (rows_from image 0 n) volts
+    found_nowhere h = rest_none (λ cs. class_in cs volts) image n i before h

@@ -7,9 +7,9 @@ use std::marker::Model;
 // The state, the place of the next byte in the block, and the size of a block in bytes.
 #[derive(Drop)]
 pub struct Sponge {
-    lanes: [u64; 25],
-    at: usize,
-    rate: usize,
+    pub lanes: [u64; 25],
+    pub at: usize,
+    pub rate: usize,
 }
 
 // Seen as these three, with room for a byte in the block.

@@ -32,7 +32,12 @@ fn commit(p: Category, tag: u8, xs: &[u8], es: &[u8], salt: &[u8], i: usize, out
     let mut exponents = [0u8; PACKED_EXPONENTS];
     expand::pack::<VALUE>(xs, &mut values[..a]);
     expand::pack::<EXPONENT>(es, &mut exponents[..b]);
-    hashing::hash(p, tag, &[&values[..a], &exponents[..b], salt, &number], out);
+    hashing::hash(
+        p.sizes.rate,
+        tag,
+        &[&values[..a], &exponents[..b], salt, &number],
+        out,
+    );
 }
 
 // c0(i): the syndrome of the scaled mask values, and the transformation.
@@ -141,7 +146,7 @@ fn hash_digests(tag: u8, rounds: &Rounds<'_>, offset: usize, out: &mut [u8])
 {
     let p = rounds.category;
     let end = offset + p.sizes.digest;
-    let mut sponge = hashing::tagged(p, tag);
+    let mut sponge = hashing::tagged(p.sizes.rate, tag);
     for j in 0..p.sizes.t {
         sponge.absorb(&rounds.at(j)[offset..end]);
     }
@@ -177,5 +182,5 @@ pub fn join_states(root: &[u8], rounds: &Rounds<'_>, c: &mut [u8])
         2 * p.sizes.n + d,
         &mut c1[..d],
     );
-    hashing::hash(p, tag::COMMITMENTS, &[root, &c1[..d]], c);
+    hashing::hash(p.sizes.rate, tag::COMMITMENTS, &[root, &c1[..d]], c);
 }

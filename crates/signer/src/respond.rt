@@ -6,7 +6,7 @@ ghost use Rattle.scheme.specs.Strings.{digest, response_string};
 ghost use Rattle.scheme.specs.Round.{values_size};
 ghost use Rattle.signer.specs.InnerState.{response_of, h_of};
 
-use crate::challenged::Challenged;
+use crate::challenged::ChallengedRounds;
 use crate::state::RoundState;
 use field::Value;
 use packing::VALUE;
@@ -18,7 +18,7 @@ use shake::Sponge;
 #[tactic(auto, using(crate::proofs::Ranges::ranges), unfolding(crate::specs::InnerState::response_of))]
 pub fn pack_response(beta: Value, state: &RoundState<'_>, out: &mut [u8])
     requires { length out.old ≡ values_size state.now.category.sizes }
-    ensures { out.new ≡ pack 7 (response_of state.now.category.sizes beta.value state.now.bytes.now) }
+    ensures { out.new ≡ pack 7 (response_of state.now.category.sizes beta state.now.bytes.now) }
 {
     let n = state.category.sizes.n;
     let mut y = [0u8; PLACES];
@@ -31,7 +31,7 @@ pub fn pack_response(beta: Value, state: &RoundState<'_>, out: &mut [u8])
 #[tactic(auto, using(crate::proofs::Digests::digests))]
 fn absorb_response(sponge: &mut Sponge, beta: Value, state: &RoundState<'_>)
     ensures { let p = state.now.category.sizes in
-        Absorbs sponge.old (digest p (response_string (response_of p beta.value state.now.bytes.now))) sponge.new }
+        Absorbs sponge.old (digest p (response_string (response_of p beta state.now.bytes.now))) sponge.new }
 {
     let p = state.category;
     let d = p.sizes.digest;
@@ -39,18 +39,23 @@ fn absorb_response(sponge: &mut Sponge, beta: Value, state: &RoundState<'_>)
     let mut packed = [0u8; PACKED_VALUES];
     let mut hashed = [0u8; DIGEST];
     pack_response(beta, state, &mut packed[..size]);
-    hashing::hash(p, tag::RESPONSE, &[&packed[..size]], &mut hashed[..d]);
+    hashing::hash(
+        p.sizes.rate,
+        tag::RESPONSE,
+        &[&packed[..size]],
+        &mut hashed[..d],
+    );
     sponge.absorb(&hashed[..d]);
 }
 
 // h: all h(i).
 #[tactic(auto, unfolding(outcome::specs::Lists::flat))]
-pub fn respond_all(given: &Challenged<'_>, h: &mut [u8])
-    requires { length h.old ≡ given.now.key.category.sizes.digest }
-    ensures { let p = given.now.key.category.sizes in h.new ≡ h_of p given.now.states.now given.now.betas.now }
+pub fn respond_all(given: &ChallengedRounds<'_>, h: &mut [u8])
+    requires { length h.old ≡ given.now.category.sizes.digest }
+    ensures { let p = given.now.category.sizes in h.new ≡ h_of p given.now.states.now given.now.betas.now }
 {
-    let p = given.key.category;
-    let mut sponge = hashing::tagged(p, tag::ALL_RESPONSES);
+    let p = given.category;
+    let mut sponge = hashing::tagged(p.sizes.rate, tag::ALL_RESPONSES);
     for j in 0..p.sizes.t {
         absorb_response(&mut sponge, given.beta(j), &given.state(j));
     }

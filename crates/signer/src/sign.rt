@@ -5,7 +5,7 @@ ghost use Rattle.scheme.specs.Sign.{signature_size, round_seed};
 ghost use Rattle.scheme.specs.Entries.{Signs};
 ghost use Rattle.signer.specs.InnerState.{state_size, Replied, SignedWith};
 
-use crate::challenged::Challenged;
+use crate::challenged::{Challenged, ChallengedRounds};
 use crate::key::SigningKey;
 use crate::rounds::Rounds;
 use crate::scratch::SignScratch;
@@ -22,28 +22,33 @@ fn reply(
     msg: &[u8],
     sig: &mut [u8],
 ) -> Result<(), Refusal>
-    requires { let p = given.now.key.category.sizes in
+    requires { let p = given.now.category.sizes in
         (length c.now ≡ p.digest) × (length salt.now ≡ p.digest) × (length sig.old ≡ signature_size p) }
-    ensures { let p = given.now.key.category.sizes in
-        Replied p given.now.states.now given.now.betas.now given.now.key.es.now given.now.seeds.now
+    ensures { let p = given.now.category.sizes in
+        Replied p given.now.states.now given.now.betas.now given.now.es.now given.now.seeds.now
         salt.now msg.now c.now sig.old (number_in result) sig.new }
 {
-    let p = given.key.category;
+    let p = given.category;
     let t = p.sizes.t;
     let d = p.sizes.digest;
     let mut h = [0u8; DIGEST];
     let mut bs = [0u8; ROUNDS];
-    respond::respond_all(given, &mut h[..d]);
+    let rounds = ChallengedRounds {
+        category: p,
+        states: given.states,
+        betas: given.betas,
+    };
+    respond::respond_all(&rounds, &mut h[..d]);
     expand::second_challenges(p, c, given.betas, &h[..d], salt, msg, &mut bs[..t])?;
     write::write_signature(given, salt, c, &h[..d], &bs[..t], sig);
     Ok(())
 }
 
-// The signature under V and the key exponents.
-fn sign_with(
+// The signature under V and the key exponents. Master seed and salt are hashed as parts of one array, and so have one lifetime.
+fn sign_with<'a>(
     key: &SigningKey<'_>,
-    master: &[u8],
-    salt: &[u8],
+    master: &'a [u8],
+    salt: &'a [u8],
     msg: &[u8],
     seeds: &mut [u8],
     states: &mut [u8],
@@ -63,7 +68,7 @@ fn sign_with(
     let mut root = [0u8; DIGEST];
     let mut c = [0u8; DIGEST];
     let mut betas = [0u8; DRAWN_ROUNDS];
-    hashing::hash(p, tag::ROUND_SEEDS, &[master, salt], seeds);
+    hashing::hash(p.sizes.rate, tag::ROUND_SEEDS, &[master, salt], seeds);
     commit::commit_all(key, seeds, salt, states)?;
     let rounds = Rounds {
         category: p,
@@ -73,7 +78,8 @@ fn sign_with(
     commit::join_states(&root[..d], &rounds, &mut c[..d]);
     expand::first_challenges(p, &c[..d], salt, msg, &mut betas)?;
     let given = Challenged {
-        key: *key,
+        category: p,
+        es: key.es,
         seeds,
         states,
         betas: &betas[..t],
@@ -91,8 +97,9 @@ pub fn sign(
     scratch: &mut SignScratch<'_>,
     sig: &mut [u8],
 ) -> Result<(), Refusal>
-    ensures { Signs scratch.old.category.sizes private.now master.now salt.now msg.now
+    ensures signature { Signs scratch.old.category.sizes private.now master.now salt.now msg.now
         sig.old (number_in result) sig.new }
+    ensures category { scratch.new.category ≡ scratch.old.category }
 {
     let p = scratch.category;
     let n = p.sizes.n;

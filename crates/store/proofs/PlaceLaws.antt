@@ -36,7 +36,7 @@ use Rattle.store.specs.Stored.{
   holding,
   first_slot,
 }
-use Rattle.store.specs.Slots.{slot_parts}
+use Rattle.store.specs.InnerSlots.{slot_parts}
 use Rattle.store.proofs.StoredLaws.{find_none}
 use Rattle.store.proofs.SlotLaws.{unset, found_at, found_nowhere}
 

@@ -1,5 +1,5 @@
 pub mod Keys
 pub mod Stored
-pub mod Slots
+pub mod InnerSlots
 pub mod Calls
 pub mod Reached

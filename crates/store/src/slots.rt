@@ -41,16 +41,20 @@ pub fn key_at(slot: &[u8; PROFILE_SIZE]) -> Key
     }
 }
 
-// The slot holds a profile of the key.
-#[tactic(auto, using(crate::proofs::KeyLaws::equal_keys))]
+// The slot holds a profile of the key. Its hertz, a number of four bytes, are read last.
+#[tactic(auto, unfolding(image::specs::Image::profile_of, crate::specs::Keys::same_key))]
 fn slot_holds(slot: &[u8; PROFILE_SIZE], key: Key) -> bool
     ensures { result ≡ holding key (slot_of slot.now) }
 {
-    is_used(slot) && key_at(slot) == key
+    is_used(slot)
+        && slot[1] == key.country.first
+        && slot[2] == key.country.second
+        && slot[3] as u32 == key.class
+        && word_at(slot, 12) == key.hertz
 }
 
 impl<'a> StoreImage<'a> {
-    ghost use Rattle.store.specs.Slots.{slot_in, slot_parts};
+    ghost use Rattle.store.specs.InnerSlots.{slot_in, slot_parts};
 
     // The bytes of the slots, one slot after the other.
     pub fn slots(&self) -> &'a [[u8; PROFILE_SIZE]]

@@ -10,7 +10,7 @@ use lib.Seq.{take_at, drop_at, take-add, length-take-le}
 use Rattle.profile.specs.declared.Profile.{Profile}
 use Rattle.image.specs.Image.{profile_size}
 use Rattle.store.specs.Stored.{capacity, slots_size, store_size, Slot, slot_of, slots_of, profiles_in, stored}
-use Rattle.store.specs.Slots.{slot_parts}
+use Rattle.store.specs.InnerSlots.{slot_parts}
 use Rattle.store.proofs.PlaceLaws.{parts_mean}
 use Rattle.std.specs.List.{list_all}
 use Rattle.std.specs.Prelude.{map}

@@ -19,7 +19,7 @@ fn syndrome(to: &impl Print) -> io::Result<()> {
 fn response(to: &impl Print) -> io::Result<()> {
     let [u, e, b] = RESPONSE;
     let mut y = [0u8; 1];
-    linear::respond(Value { value: b }, &[u], &[e], &mut y);
+    linear::respond(Value(b), &[u], &[e], &mut y);
     println!(to; "{:03}", y[0])?;
     linear::normalize(&mut y);
     println!(to; "{:03}", y[0])
@@ -28,7 +28,7 @@ fn response(to: &impl Print) -> io::Result<()> {
 fn difference(to: &impl Print) -> io::Result<()> {
     let [x, b, s] = DIFFERENCE;
     let mut out = [0u8; 1];
-    linear::subtract(Value { value: b }, &[x], &[s], &mut out);
+    linear::subtract(Value(b), &[x], &[s], &mut out);
     println!(to; "{:03}", out[0])?;
     linear::normalize(&mut out);
     println!(to; "{:03}", out[0])

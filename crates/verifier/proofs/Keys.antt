@@ -2,14 +2,16 @@
 use mathlib.Core.Path.{◌≡◌, refl, sym, subst}
 use mathlib.Core.Bool.{Bool, true, false}
 use mathlib.Core.List.{List, [], ◌∷◌, ◌++◌}
-use Prim.Native.Nat.{ℕ, ◌-◌}
+use Prim.Native.Nat.{ℕ, ◌-◌, ◌≤◌}
 use native.Mathlib.Omega.{arith}
 use lib.Dec.{T}
 use lib.ListN.{length, take, drop, replicate}
 use Rattle.outcome.specs.Answer.{Answers, ◌unless◌, short_draw, first_refusal}
 use Rattle.outcome.proofs.Checks.{number_positive}
+use Rattle.outcome.proofs.Numbers.{product_le}
 use Rattle.packing.proofs.Below.{Below}
 use Rattle.parameters.specs.declared.Params.{Params}
+use Rattle.parameters.specs.Sound.{Sound}
 use Rattle.parameters.specs.declared.category.Category.{Category}
 use Rattle.sampling.proofs.Kept.{sample_below, length_sample}
 use Rattle.scheme.specs.Key.{key_fields, syndrome_of, matrix, matrix_drawn, matrix_block, matrix_count}
@@ -25,6 +27,12 @@ drawn_true {ok = true} e = refl
 drawn_true {ok = false} e = absurd (number_positive short_draw (sym e))
 
 module _ (p : Params) where
+  -- V is no longer than the local sizes allow
+  pub count_fits : Sound p → matrix_count p ≤ 65536
+  count_fits sound =
+      product_le (p.n - p.k) p.k 256 256
+      (omega (arith, sound.n_fits)) (omega (arith, sound.k≤n, sound.n_fits))
+
   below_matrix : (public : List ℕ) → Below 127 (matrix p public)
   unfolding matrix
   below_matrix public = sample_below 7 127 0 (matrix_count p) (matrix_block p public)

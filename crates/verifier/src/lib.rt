@@ -2,9 +2,9 @@
 #![tactic(auto)]
 
 mod compare;
-mod key;
-mod public_key;
-mod reply;
-mod rounds;
+pub mod key;
+pub mod public_key;
+pub mod reply;
+pub mod rounds;
 pub mod verify;
 pub mod verify_round;

@@ -42,7 +42,7 @@ fn commit_mask(p: Category, us: &[u8], es: &[u8], salt: &[u8], i: usize, out: &m
     expand::pack::<EXPONENT>(es, &mut exponents[..e]);
     let number = expand::round_number(i);
     hashing::hash(
-        p,
+        p.sizes.rate,
         tag::COMMITMENT_1,
         &[&values[..u], &exponents[..e], salt, &number],
         out,
@@ -57,14 +57,14 @@ fn commit_response(p: Category, ys: &[u8], out: &mut [u8])
     let y = packing::packed_size(p.sizes.n, VALUE);
     let mut values = [0u8; PACKED_VALUES];
     expand::pack::<VALUE>(ys, &mut values[..y]);
-    hashing::hash(p, tag::RESPONSE, &[&values[..y]], out);
+    hashing::hash(p.sizes.rate, tag::RESPONSE, &[&values[..y]], out);
 }
 
 // Both digests from the mask values u' and the mask exponents e'.
 fn from_mask(p: Category, us: &[u8], es: &[u8], salt: &[u8], round: Round) -> Digests
     requires { Vector 127 p.sizes.n us.now × Vector 7 p.sizes.n es.now }
     ensures { Made p.sizes (commitment1_string us.now es.now salt.now round.i)
-        (response_string (response round.beta.value us.now es.now)) result }
+        (response_string (response round.beta us.now es.now)) result }
 {
     let n = p.sizes.n;
     let d = p.sizes.digest;
@@ -80,7 +80,7 @@ fn from_mask(p: Category, us: &[u8], es: &[u8], salt: &[u8], round: Round) -> Di
 
 // Under the second challenge 1: the reply is the round's seed.
 fn from_seed(p: Category, salt: &[u8], round: Round, seed: &[u8]) -> Result<Digests, Refusal>
-    ensures { Recomputed p.sizes [] [] 1 round.beta.value seed.now salt.now round.i result }
+    ensures { Recomputed p.sizes [] [] 1 round.beta seed.now salt.now round.i result }
 {
     let n = p.sizes.n;
     let mut es = [0u8; DRAWN_PLACES];
@@ -95,7 +95,7 @@ fn reply_syndrome(key: PublicKey<'_>, beta: Value, es: &[u8], ys: &[u8], out: &m
     requires { Vector 7 key.category.sizes.n es.now × Vector 127 key.category.sizes.n ys.now
         × (length out.old ≡ key.category.sizes.n - key.category.sizes.k) }
     ensures { out.new ≡
-        less_times beta.value (syndrome_of key.entry.category.sizes.k key.entry.vs.now (scaled es.now ys.now))
+        less_times beta (syndrome_of key.entry.category.sizes.k key.entry.vs.now (scaled es.now ys.now))
         key.entry.s.now }
 {
     let n = key.category.sizes.n;
@@ -120,7 +120,7 @@ fn commit_syndrome(p: Category, xs: &[u8], exponents: &[u8], salt: &[u8], i: usi
     expand::pack::<VALUE>(xs, &mut values[..x]);
     let number = expand::round_number(i);
     hashing::hash(
-        p,
+        p.sizes.rate,
         tag::COMMITMENT_0,
         &[&values[..x], exponents, salt, &number],
         out,
@@ -143,7 +143,7 @@ fn from_fields(
     let mut commitment = [0u8; DIGEST];
     commit_syndrome(p, xs, exponents, salt, i, &mut commitment[..d]);
     let mut hash = [0u8; DIGEST];
-    hashing::hash(p, tag::RESPONSE, &[values], &mut hash[..d]);
+    hashing::hash(p.sizes.rate, tag::RESPONSE, &[values], &mut hash[..d]);
     Digests { commitment, hash }
 }
 
@@ -155,7 +155,7 @@ fn from_values(
     reply: &[u8],
 ) -> Result<Digests, Refusal>
     requires { length reply.now ≡ reply_size key.category.sizes 0 }
-    ensures { Recomputed key.entry.category.sizes key.entry.vs.now key.entry.s.now 0 round.beta.value reply.now salt.now
+    ensures { Recomputed key.entry.category.sizes key.entry.vs.now key.entry.s.now 0 round.beta reply.now salt.now
         round.i result }
 {
     let p = key.category;
@@ -179,7 +179,7 @@ pub fn recompute(
     reply: &[u8],
 ) -> Result<Digests, Refusal>
     requires { length reply.now ≡ reply_size key.category.sizes round.b }
-    ensures { Recomputed key.entry.category.sizes key.entry.vs.now key.entry.s.now round.b round.beta.value reply.now
+    ensures { Recomputed key.entry.category.sizes key.entry.vs.now key.entry.s.now round.b round.beta reply.now
         salt.now round.i result }
 {
     if round.b == 1 {

@@ -43,15 +43,16 @@ fn step(
     sponges: &mut Sponges,
 ) -> Result<(), Refusal>
     requires { length part.now ≡ part_size key.category.sizes round.b }
-    ensures { Stepped key.entry.category.sizes key.entry.vs.now key.entry.s.now salt.now round.i round.beta.value
+    ensures { Stepped key.entry.category.sizes key.entry.vs.now key.entry.s.now salt.now round.i round.beta
         round.b part.now sponges.old (number_in result) sponges.new }
 {
     let d = key.category.sizes.digest;
-    let (reply, brought) = part.split_at(scheme::reply_size(key.category, round.b));
+    let b = round.b;
+    let (reply, brought) = part.split_at(scheme::reply_size(key.category, b));
     let made = reply::recompute(key, salt, round, reply)?;
     let given = &made.commitment[..d];
     let h = &made.hash[..d];
-    if round.b == 1 {
+    if b == 1 {
         absorb_round(sponges, brought, given, h);
     } else {
         absorb_round(sponges, given, brought, h);
@@ -64,9 +65,9 @@ fn begin(p: Category) -> Sponges
     ensures { HoldAll result p.sizes.rate [] [] [] }
 {
     Sponges {
-        c0: hashing::tagged(p, tag::ALL_COMMITMENTS_0),
-        c1: hashing::tagged(p, tag::ALL_COMMITMENTS_1),
-        h: hashing::tagged(p, tag::ALL_RESPONSES),
+        c0: hashing::tagged(p.sizes.rate, tag::ALL_COMMITMENTS_0),
+        c1: hashing::tagged(p.sizes.rate, tag::ALL_COMMITMENTS_1),
+        h: hashing::tagged(p.sizes.rate, tag::ALL_RESPONSES),
     }
 }
 
@@ -88,7 +89,7 @@ pub fn run(
     for j in 0..key.category.sizes.t {
         let round = Round {
             i: j + 1,
-            beta: Value { value: betas[j] },
+            beta: Value(betas[j]),
             b: bs[j],
         };
         let end = at + scheme::part_size(key.category, round.b);
@@ -109,7 +110,7 @@ pub fn compare(p: Category, sponges: Sponges, c: &[u8], h: &[u8]) -> Result<(), 
     sponges.c1.squeeze(&mut c1[..d]);
     let mut commitment = [0u8; DIGEST];
     hashing::hash(
-        p,
+        p.sizes.rate,
         tag::COMMITMENTS,
         &[&c0[..d], &c1[..d]],
         &mut commitment[..d],

@@ -44,7 +44,8 @@ fn pieces(key: PublicKey<'_>, msg: &[u8], sig: &[u8]) -> Result<(), Refusal>
 }
 
 pub fn verify(key: &[u8], msg: &[u8], sig: &[u8], scratch: &mut Scratch<'_>) -> Result<(), Refusal>
-    ensures { Verifies scratch.old.category.sizes key.now msg.now sig.now (number_in result) }
+    ensures answer { Verifies scratch.old.category.sizes key.now msg.now sig.now (number_in result) }
+    ensures category { scratch.new.category ≡ scratch.old.category }
 {
     let p = scratch.category;
     sizes(p, key.len(), msg.len(), sig.len())?;

@@ -53,7 +53,7 @@ fn sizes(
 // A round: i from 1 to t, β from 1 to 126, the challenge 0 or 1.
 fn numbers(p: Category, i: u32, beta: u32, challenge: u32) -> Result<Round, Refusal>
     ensures answer { number_in result ≡ first_refusal (verify_round_numbers p.sizes i beta challenge) }
-    ensures round { IfOk result (λ round. (round.i ≡ i) × (round.beta.value ≡ beta) × (round.b ≡ challenge)
+    ensures round { IfOk result (λ round. (round.i ≡ i) × (round.beta ≡ beta) × (round.b ≡ challenge)
         × (round.b ≤ 1)) }
 {
     if i < 1 || i as usize > p.sizes.t || beta < 1 || beta > 126 || challenge > 1 {
@@ -61,7 +61,7 @@ fn numbers(p: Category, i: u32, beta: u32, challenge: u32) -> Result<Round, Refu
     }
     Ok(Round {
         i: i as usize,
-        beta: Value { value: beta as u8 },
+        beta: Value(beta as u8),
         b: challenge as u8,
     })
 }
@@ -77,7 +77,7 @@ fn round(
 ) -> Result<(), Refusal>
     requires { length reply.now ≡ reply_size key.category.sizes round.b }
     ensures { number_in result ≡ first_refusal (verify_round_reply key.entry.category.sizes key.entry.vs.now
-        key.entry.s.now salt.now round.i round.beta.value round.b reply.now matching.now h.now) }
+        key.entry.s.now salt.now round.i round.beta round.b reply.now matching.now h.now) }
 {
     let d = key.category.sizes.digest;
     let made = reply::recompute(key, salt, round, reply)?;
@@ -96,8 +96,9 @@ pub fn verify_round(
     reply: &[u8],
     scratch: &mut Scratch<'_>,
 ) -> Result<(), Refusal>
-    ensures { VerifiesRound scratch.old.category.sizes key.now salt.now i c0.now c1.now beta
+    ensures answer { VerifiesRound scratch.old.category.sizes key.now salt.now i c0.now c1.now beta
         h.now challenge reply.now (number_in result) }
+    ensures category { scratch.new.category ≡ scratch.old.category }
 {
     let p = scratch.category;
     sizes(p, key, salt, c0, c1, h, challenge, reply)?;

@@ -1,7 +1,10 @@
 -- `decimal::read_decimal` meets its contract: the value so far and the digits that are left spell the number. Assumes nothing.
 use mathlib.Core.Path.{◌∙◌, sym}
-use Rattle.decimal.proofs.Decimal.{so_far_none, so_far_more, so_far_stop, so_far_end}
+use Rattle.decimal.proofs.Decimal.{so_far_none, so_far_more, so_far_stop, so_far_end, read_past}
 use Rattle.decimal.proofs.read_decimal.Goals as goal
+
+pub returns-then-s-at : goal.returns-then-s-at
+returns-then-s-at c = read_past _ _ c.if-s-at.true
 
 pub loop-end-init : goal.loop-end-init
 loop-end-init c = so_far_none _ _

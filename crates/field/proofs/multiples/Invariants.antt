@@ -5,4 +5,4 @@ use Rattle.field.proofs.multiples.Given as goal
 
 abbrev pub invariant-loop-exponent : goal.invariant-loop-exponent
 invariant-loop-exponent l =
-    (length l.products ≡ 7) × ((a : ℕ) → a < l.exponent → get_or l.products a 0 ≡ times_power a l.x.value)
+    (length l.products ≡ 7) × ((a : ℕ) → a < l.exponent → get_or l.products a 0 ≡ times_power a l.x)

@@ -11,13 +11,13 @@ use Rattle.expand.proofs.Lent.{lent, lent_within}
 use Rattle.keygen.proofs.Made.{public_lent, below_matrix, sized_checks, key_made}
 use Rattle.keygen.proofs.make_key.Goals as goal
 
-pub returns-then-private-d : goal.returns-then-private-d
+pub returns-then-private-d-clause-key : goal.returns-then-private-d-clause-key
 unfolding make_key_checks
-returns-then-private-d c = refuses bad_size (rw (ne_eqb _ _ c.if-private-d.true)) refl
+returns-then-private-d-clause-key c = refuses bad_size (rw (ne_eqb _ _ c.if-private-d.true)) refl
 
-pub returns-then-key-key_size : goal.returns-then-key-key_size
+pub returns-then-key-key_size-clause-key : goal.returns-then-key-key_size-clause-key
 unfolding make_key_checks
-returns-then-key-key_size c =
+returns-then-key-key_size-clause-key c =
     let p = c.args.scratch.now.category.sizes in
     refuses bad_size
     (rw (
@@ -26,8 +26,8 @@ returns-then-key-key_size c =
     ))
     refl
 
-pub returns-in_err-material : goal.returns-in_err-material
-returns-in_err-material c =
+pub returns-in_err-material-clause-key : goal.returns-in_err-material-clause-key
+returns-in_err-material-clause-key c =
     let p = c.args.scratch.now.category.sizes in
     let short = err_from_is_err_and c.from_residual.result c.from_residual.ensures.1 in
     rw (short.1, short.2)
@@ -51,8 +51,8 @@ write_key-requires c =
       c.if-key-key_size.false ∙ c.key_size.ensures,
     )
 
-pub returns : goal.returns
-returns c =
+pub returns-clause-key : goal.returns-clause-key
+returns-clause-key c =
     let p = c.args.scratch.now.category.sizes in
     let private = c.args.private.now in
     let made = c.in_ok-material.ensures in

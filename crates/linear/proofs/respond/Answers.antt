@@ -14,10 +14,10 @@ add-requires c =
     let products = c.multiply.ensures in (
       omega arith,
       kept_below 128 _ (below_le (lit≤ tt) (below 127 _ c.requires.2)),
-      rw products (kept_below 128 _ (below_le (lit≤ tt) (below_multiplied c.args.b.value c.args.e.now))),
+      rw products (kept_below 128 _ (below_le (lit≤ tt) (below_multiplied c.args.b c.args.e.now))),
     )
 
 pub returns : goal.returns
 returns c =
     let args = c.args in
-    spells (ap (added args.u.now) c.multiply.ensures ∙ response_added args.b.value args.u.now args.e.now) c.add.ensures
+    spells (ap (added args.u.now) c.multiply.ensures ∙ response_added args.b args.u.now args.e.now) c.add.ensures

@@ -22,9 +22,9 @@ loop-i-preserved c =
     let sum = c.row_sum-sum.ensures.0
     ∙ ap (λ (row : List ℕ). dot (take w.result row) (take w.result a.x.now) % 127) (rest_taken at a.vs.now)
     ∙ ap (λ (n : ℕ). n % 127) covered in
-    let value : c.reduce.result.value % 127 ≡ get_or (rows_times a.k a.vs.now (take a.k a.x.now) a.b.now) i 0 =
+    let value : c.reduce.result % 127 ≡ get_or (rows_times a.k a.vs.now (take a.k a.x.now) a.b.now) i 0 =
     c.reduce.ensures ∙ row_place a.k a.vs.now (take a.k a.x.now) a.b.now i c.row_sum-sum.result (omega arith) sum in
-    let low : c.reduce.result.value ≤ 127 = c.reduce.result.below in
+    let low : c.reduce.result ≤ 127 = omega arith in
     λ j h. grind (arith, common_steps)
 
 pub returns : goal.returns

@@ -8,5 +8,5 @@ use Rattle.evaluate.proofs.rewrite.append_field.Goals as goal
 pub returns : goal.returns
 returns c =
     let a = c.args in
-    put_part a.out.now c.copy_from_slice.new.self a.field.now a.at (a.at + length a.field.now)
-    c.copy_from_slice.ensures.after refl c.requires.room
+    put_part a.out.now c.copy.new.to a.field.now a.at (a.at + length a.field.now)
+    c.copy.ensures refl c.requires.room

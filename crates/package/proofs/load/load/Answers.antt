@@ -22,29 +22,29 @@ set : {r : Bool} (store country : List ℕ) (class hertz : ℕ) {device : Device
     → device_ok (classes_of store) (device_of country class hertz) ≡ v
 set store country class hertz asked made e = sym (asked ∙ ap (device_ok (classes_of store)) made) ∙ e
 
-pub returns-then-country-ne2 : goal.returns-then-country-ne2
-returns-then-country-ne2 c =
+pub returns-then-country-ne2-clause-store : goal.returns-then-country-ne2-clause-store
+returns-then-country-ne2-clause-store c =
     let a = c.args in
     load_country a.scratch.now.category.sizes (classes_of a.store.now) a.key.now a.sealed.now a.country.now a.class a.hertz
     a.store.now c.if-country-ne2.true
 
-pub returns-then-not-device_ok : goal.returns-then-not-device_ok
-returns-then-not-device_ok c =
+pub returns-then-not-device_ok-clause-store : goal.returns-then-not-device_ok-clause-store
+returns-then-not-device_ok-clause-store c =
     let a = c.args in
     load_device a.scratch.now.category.sizes (classes_of a.store.now) a.key.now a.sealed.now a.country.now a.class a.hertz
     a.store.now c.if-country-ne2.false
     (set a.store.now a.country.now a.class a.hertz c.device_ok.ensures c.device_of-device.ensures c.if-not-device_ok.true)
 
-pub returns-then-store-ne-STORE_SIZE : goal.returns-then-store-ne-STORE_SIZE
-returns-then-store-ne-STORE_SIZE c =
+pub returns-then-store-ne-STORE_SIZE-clause-store : goal.returns-then-store-ne-STORE_SIZE-clause-store
+returns-then-store-ne-STORE_SIZE-clause-store c =
     let a = c.args in
     load_size a.scratch.now.category.sizes (classes_of a.store.now) a.key.now a.sealed.now a.country.now a.class a.hertz
     a.store.now c.if-country-ne2.false
     (set a.store.now a.country.now a.class a.hertz c.device_ok.ensures c.device_of-device.ensures c.if-not-device_ok.false)
     c.if-store-ne-STORE_SIZE.true
 
-pub returns-in_err-profile : goal.returns-in_err-profile
-returns-in_err-profile c =
+pub returns-in_err-profile-clause-store : goal.returns-in_err-profile-clause-store
+returns-in_err-profile-clause-store c =
     let a = c.args in
     let p = a.scratch.now.category.sizes in
     rw (passed_on c.from_residual.result c.from_residual.ensures.1)
@@ -52,15 +52,15 @@ returns-in_err-profile c =
     c.if-country-ne2.false
     (set a.store.now a.country.now a.class a.hertz c.device_ok.ensures c.device_of-device.ensures c.if-not-device_ok.false)
     c.if-store-ne-STORE_SIZE.false _
-    (subst (λ (table : List Class). Opens p table a.key.now a.sealed.now (Err c.in_err-profile.field-0.0)) (behind_slots a.store.now) c.in_err-profile.ensures))
+    (subst (λ (table : List Class). Opens p table a.key.now a.sealed.now (Err c.in_err-profile.field-0.0)) (behind_slots a.store.now) c.in_err-profile.ensures.profile))
 
-pub returns : goal.returns
-returns c =
+pub returns-clause-store : goal.returns-clause-store
+returns-clause-store c =
     let a = c.args in
     let p = a.scratch.now.category.sizes in
     load_put p (classes_of a.store.now) a.key.now a.sealed.now a.country.now a.class a.hertz a.store.now
     c.if-country-ne2.false
     (set a.store.now a.country.now a.class a.hertz c.device_ok.ensures c.device_of-device.ensures c.if-not-device_ok.false)
     c.if-store-ne-STORE_SIZE.false _ c.device_of-device.ensures
-    (subst (λ (table : List Class). Opens p table a.key.now a.sealed.now (Ok c.in_ok-profile.profile)) (behind_slots a.store.now) c.in_ok-profile.ensures)
+    (subst (λ (table : List Class). Opens p table a.key.now a.sealed.now (Ok c.in_ok-profile.profile)) (behind_slots a.store.now) c.in_ok-profile.ensures.profile)
     c.put.ensures

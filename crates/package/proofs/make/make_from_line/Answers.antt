@@ -5,16 +5,16 @@ use Rattle.outcome.proofs.Results.{passed_on}
 use Rattle.package.proofs.MakeLaws.{make_line_sizes, make_line_broken, read_room, make_line_sealed}
 use Rattle.package.proofs.make.make_from_line.Goals as goal
 
-pub returns-in_err-check_make : goal.returns-in_err-check_make
-returns-in_err-check_make c =
+pub returns-in_err-check_make-clause-package : goal.returns-in_err-check_make-clause-package
+returns-in_err-check_make-clause-package c =
     let a = c.args in
     rw (passed_on c.from_residual.result c.from_residual.ensures.1)
     (λ before.
     make_line_sizes a.scratch.now.category.sizes a.table.now a.private.now a.master.now a.salt.now a.line.now a.out.now
     before _ (number_positive _) c.in_err-check_make.ensures)
 
-pub returns-in_err-read_line : goal.returns-in_err-read_line
-returns-in_err-read_line c =
+pub returns-in_err-read_line-clause-package : goal.returns-in_err-read_line-clause-package
+returns-in_err-read_line-clause-package c =
     let a = c.args in
     rw (passed_on c.from_residual-in_err-read_line.result c.from_residual-in_err-read_line.ensures.1)
     (λ before.
@@ -27,9 +27,9 @@ seal-requires c =
     read_room a.scratch.now.category.sizes a.table.now a.private.now a.master.now a.salt.now a.line.now a.out.now 0 0
     c.in_ok-check_make.ensures refl _ c.in_ok-read_line.ensures
 
-pub returns : goal.returns
-returns c =
+pub returns-clause-package : goal.returns-clause-package
+returns-clause-package c =
     let a = c.args in
     λ before.
     make_line_sealed a.scratch.now.category.sizes a.table.now a.private.now a.master.now a.salt.now a.line.now a.out.now
-    before 0 c.in_ok-check_make.ensures refl _ c.in_ok-read_line.ensures (c.seal.ensures before)
+    before 0 c.in_ok-check_make.ensures refl _ c.in_ok-read_line.ensures (c.seal.ensures.package before)

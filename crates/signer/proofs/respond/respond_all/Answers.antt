@@ -22,7 +22,7 @@ pub returns : goal.returns
 unfolding h_of digest bytes_from all_responses_string
 returns c =
     let given = c.args.given.now in
-    let p = given.key.category.sizes in
+    let p = given.category.sizes in
     let end : c.loop-j.j ≡ p.t = omega arith in
     let long = c.requires in
     c.squeeze.ensures.holds c.loop-j.invariant

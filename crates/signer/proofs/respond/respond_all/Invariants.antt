@@ -7,5 +7,5 @@ use Rattle.signer.proofs.respond.respond_all.Given as goal
 
 abbrev pub invariant-loop-j : goal.invariant-loop-j
 invariant-loop-j l =
-    let p = l.given.key.category.sizes in
+    let p = l.given.category.sizes in
     Holds l.sponge p.rate (6 ∷ flat (h_at p l.given.states.now l.given.betas.now) l.j)

@@ -16,7 +16,7 @@ pub write_signature-requires-clause-bs_len : goal.write_signature-requires-claus
 write_signature-requires-clause-bs_len c =
     let a = c.args in
     let given = a.given.now in
-    let category = given.key.category in
+    let category = given.category in
     let p = category.sizes in
     let long : length c.second_challenges.new.out ≡ p.t = grind (arith, common_steps) in
     let b =

@@ -6,8 +6,8 @@ use Rattle.outcome.proofs.Checks.{refuses}
 use Rattle.signer.proofs.Answered.{key_short, signed_with}
 use Rattle.signer.proofs.sign.sign.Goals as goal
 
-pub returns-in_err-material : goal.returns-in_err-material
-returns-in_err-material c =
+pub returns-in_err-material-clause-signature : goal.returns-in_err-material-clause-signature
+returns-in_err-material-clause-signature c =
     let a = c.args in
     let p = a.scratch.now.category.sizes in
     let end = err_from_is_err_and c.from_residual-in_err-material.result c.from_residual-in_err-material.ensures.1 in
@@ -17,8 +17,8 @@ returns-in_err-material c =
     c.in_err-material.ensures.answer)
     refl)
 
-pub returns : goal.returns
-returns c =
+pub returns-clause-signature : goal.returns-clause-signature
+returns-clause-signature c =
     let a = c.args in
     let made = c.in_ok-material.ensures in
     signed_with a.scratch.now.category.sizes a.private.now a.master.now a.salt.now a.msg.now (length a.sig.now)

@@ -87,6 +87,7 @@ invariant_of-given c =
     let p = key.category.sizes in
     let seed = seed_at p c.hash.new.out in
     record {
+      exponents = key.exponents;
       seeds_size = grind (arith, common_steps);
       rounds =
           states_good p key.category.sound key.vs.now key.es.now seed a.salt.now (sym c.in_ok-commit_all.ensures.answer)

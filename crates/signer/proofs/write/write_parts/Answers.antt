@@ -8,7 +8,7 @@ use Rattle.signer.proofs.write.write_parts.Goals as goal
 
 pub slice_bounds-write_part-end : goal.slice_bounds-write_part-end
 slice_bounds-write_part-end c =
-    let p = c.args.given.now.key.category.sizes in
+    let p = c.args.given.now.category.sizes in
     let sizes : ℕ → ℕ = λ i. part_size p (get_or c.args.bs.now i 0) in
     omega (
       arith,

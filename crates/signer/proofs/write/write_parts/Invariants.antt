@@ -10,9 +10,9 @@ use Rattle.signer.proofs.write.write_parts.Given as goal
 abbrev pub invariant-loop-j : goal.invariant-loop-j
 invariant-loop-j l =
     let given = l.given in
-    let p = given.key.category.sizes in
+    let p = given.category.sizes in
     record {
       place : l.start ≡ offset p l.bs l.j;
       within : l.start ≤ length l.fn.parts;
-      written : take l.start l.parts ≡ flat (part_at p given.states.now given.betas.now given.key.es.now given.seeds.now l.bs) l.j;
+      written : take l.start l.parts ≡ flat (part_at p given.states.now given.betas.now given.es.now given.seeds.now l.bs) l.j;
     }

@@ -19,8 +19,8 @@ commit_response-requires c =
     let response = normal_part (written n (replicate 256 0) a.p.sound.n_fits c.respond.auto.out refl) c.respond.ensures
     c.normalize.ensures in (
       made 127 n (rewritten n (replicate 256 0) c.respond.new.out a.p.sound.n_fits c.respond.auto.out c.normalize.auto.xs response)
-          (length_response a.round.beta.value a.us.now a.es.now n c.requires.0.long c.requires.1.long)
-          (below_response a.round.beta.value a.us.now a.es.now),
+          (length_response a.round.beta a.us.now a.es.now n c.requires.0.long c.requires.1.long)
+          (below_response a.round.beta a.us.now a.es.now),
       length-take-le a.p.sizes.digest (replicate 64 0) a.p.sound.digest_fits,
     )
 

@@ -17,7 +17,7 @@ returns-in_err-unpack c =
     let a = c.args in
     let parts = cut a.key.category c.requires c.packed_size.ensures c.split_at.ensures.front c.split_at.ensures.back in
     rw (exit c.from_residual.result c.from_residual.ensures.1)
-    (values_refuse parts a.key.vs.now a.key.s.now a.round.beta.value a.salt.now a.round.i
+    (values_refuse parts a.key.vs.now a.key.s.now a.round.beta a.salt.now a.round.i
     c.in_err-unpack.field-0.0 c.in_err-unpack.ensures)
 
 pub returns-in_err-unpack-2 : goal.returns-in_err-unpack-2
@@ -25,7 +25,7 @@ returns-in_err-unpack-2 c =
     let a = c.args in
     let parts = cut a.key.category c.requires c.packed_size.ensures c.split_at.ensures.front c.split_at.ensures.back in
     rw (exit c.from_residual-in_err-unpack-2.result c.from_residual-in_err-unpack-2.ensures.1)
-    (exponents_refuse parts a.key.vs.now a.key.s.now a.round.beta.value a.salt.now a.round.i
+    (exponents_refuse parts a.key.vs.now a.key.s.now a.round.beta a.salt.now a.round.i
     c.in_err-unpack-2.field-0.0 c.in_ok-unpack.ensures c.in_err-unpack-2.ensures)
 
 pub reply_syndrome-requires : goal.reply_syndrome-requires
@@ -47,16 +47,16 @@ from_fields-requires c =
     let ys = values_read parts c.in_ok-unpack.ensures c.unpack.auto.fields in
     made 127 m
     (written m (replicate 256 0) (omega (arith, p.sound.n_fits)) c.reply_syndrome.auto.out c.reply_syndrome.ensures)
-    (length_less a.round.beta.value p.sizes.n p.sizes.k a.key.vs.now a.key.s.now _ _
+    (length_less a.round.beta p.sizes.n p.sizes.k a.key.vs.now a.key.s.now _ _
     (read_vector 3 7 p.sizes.n es).long (read_vector 7 127 p.sizes.n ys).long a.key.syndrome.long)
-    (below_less_times a.round.beta.value _ _)
+    (below_less_times a.round.beta _ _)
 
 pub returns : goal.returns
 returns c =
     let a = c.args in
     let p = a.key.category in
     let parts = cut p c.requires c.packed_size.ensures c.split_at.ensures.front c.split_at.ensures.back in
-    values_made parts a.key.vs.now a.key.s.now a.round.beta.value a.salt.now a.round.i (bytes_below a.reply.now c.type_inv.reply)
+    values_made parts a.key.vs.now a.key.s.now a.round.beta a.salt.now a.round.i (bytes_below a.reply.now c.type_inv.reply)
     (values_read parts c.in_ok-unpack.ensures c.unpack.auto.fields)
     (exponents_read parts c.in_ok-unpack-2.ensures c.unpack-2.auto.fields)
     (written (p.sizes.n - p.sizes.k) (replicate 256 0) (omega (arith, p.sound.n_fits)) c.reply_syndrome.auto.out

@@ -41,5 +41,5 @@ returns c =
     in
     c.normalize.ensures
     ∙ c.subtract.ensures.congruent
-    ∙ sym (less_residues a.beta.value _ a.key.s.now)
-    ∙ ap (λ (x : List ℕ). less_times a.beta.value x a.key.s.now) product
+    ∙ sym (less_residues a.beta _ a.key.s.now)
+    ∙ ap (λ (x : List ℕ). less_times a.beta x a.key.s.now) product

@@ -14,7 +14,7 @@ loop-j-init c =
 pub invariant_of-round : goal.invariant_of-round
 invariant_of-round c =
     let betas = c.requires.0 in
-    record { below = below_at (below 127 c.args.betas.now betas.ranged) c.loop-j.j (omega (arith, betas.long)) }
+    below_at (below 127 c.args.betas.now betas.ranged) c.loop-j.j (omega (arith, betas.long))
 
 pub overflow_add-end : goal.overflow_add-end
 overflow_add-end c =

@@ -9,16 +9,16 @@ returns-in_err-made c =
     rw (exit c.from_residual.result c.from_residual.ensures.1)
     (step_refuses c.args.part.now c.reply_size.ensures cut.front cut.back c.in_err-made.field-0.0 c.in_err-made.ensures)
 
-pub returns-then-round-eq1 : goal.returns-then-round-eq1
-returns-then-round-eq1 c =
+pub returns-then-b-eq1 : goal.returns-then-b-eq1
+returns-then-b-eq1 c =
     let cut = c.split_at.ensures in
     let took = c.absorb_round.ensures in
-    stepped_one c.args.part.now c.reply_size.ensures cut.front cut.back c.in_ok-made.ensures took.2 c.if-round-eq1.true
+    stepped_one c.args.part.now c.reply_size.ensures cut.front cut.back c.in_ok-made.ensures took.2 c.if-b-eq1.true
     took.0 took.1
 
-pub returns-else-round-eq1 : goal.returns-else-round-eq1
-returns-else-round-eq1 c =
+pub returns-else-b-eq1 : goal.returns-else-b-eq1
+returns-else-b-eq1 c =
     let cut = c.split_at.ensures in
-    let took = c.absorb_round-else-round-eq1.ensures in
-    stepped_other c.args.part.now c.reply_size.ensures cut.front cut.back c.in_ok-made.ensures took.2 c.if-round-eq1.false
+    let took = c.absorb_round-else-b-eq1.ensures in
+    stepped_other c.args.part.now c.reply_size.ensures cut.front cut.back c.in_ok-made.ensures took.2 c.if-b-eq1.false
     took.0 took.1

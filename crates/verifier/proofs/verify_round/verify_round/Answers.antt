@@ -9,29 +9,29 @@ use Rattle.verifier.proofs.Keys.{read, matrix_vector}
 use Rattle.verifier.proofs.verify_round.verify_round.Goals.{then-challenge-eq1, else-challenge-eq1}
 use Rattle.verifier.proofs.verify_round.verify_round.Goals as goal
 
-pub returns-in_err-sizes : goal.returns-in_err-sizes
-returns-in_err-sizes c =
+pub returns-in_err-sizes-clause-answer : goal.returns-in_err-sizes-clause-answer
+returns-in_err-sizes-clause-answer c =
     let a = c.args in
     rw (exit c.from_residual.result c.from_residual.ensures.1)
     (sizes_stop a.scratch.now.category.sizes a.key.now a.salt.now a.i a.c0.now a.c1.now a.beta a.h.now a.challenge a.reply.now
     c.in_err-sizes.field-0.0 c.in_err-sizes.ensures.answer)
 
-pub returns-in_err-syndrome : goal.returns-in_err-syndrome
-returns-in_err-syndrome c =
+pub returns-in_err-syndrome-clause-answer : goal.returns-in_err-syndrome-clause-answer
+returns-in_err-syndrome-clause-answer c =
     let a = c.args in
     rw (exit c.from_residual-in_err-syndrome.result c.from_residual-in_err-syndrome.ensures.1)
     (fields_stop a.scratch.now.category.sizes a.key.now a.salt.now a.i a.c0.now a.c1.now a.beta a.h.now a.challenge a.reply.now
     c.in_ok-sizes.ensures.answer c.in_err-syndrome.field-0.0 c.in_err-syndrome.ensures.answer)
 
-pub returns-in_err-given : goal.returns-in_err-given
-returns-in_err-given c =
+pub returns-in_err-given-clause-answer : goal.returns-in_err-given-clause-answer
+returns-in_err-given-clause-answer c =
     let a = c.args in
     rw (exit c.from_residual-in_err-given.result c.from_residual-in_err-given.ensures.1)
     (numbers_stop a.scratch.now.category.sizes a.key.now a.salt.now a.i a.c0.now a.c1.now a.beta a.h.now a.challenge a.reply.now
     c.in_ok-sizes.ensures.answer c.in_ok-syndrome.ensures.answer c.in_err-given.field-0.0 c.in_err-given.ensures.answer)
 
-pub returns-in_err-matrix : goal.returns-in_err-matrix
-returns-in_err-matrix c =
+pub returns-in_err-matrix-clause-answer : goal.returns-in_err-matrix-clause-answer
+returns-in_err-matrix-clause-answer c =
     let a = c.args in
     rw (exit c.from_residual-in_err-matrix.result c.from_residual-in_err-matrix.ensures.1)
     (draw_stops a.scratch.now.category.sizes a.key.now a.salt.now a.i a.c0.now a.c1.now a.beta a.h.now a.challenge a.reply.now
@@ -46,8 +46,8 @@ invariant_of-public c =
       syndrome = (read p c.args.key.now c.in_ok-syndrome.ensures c.syndrome.auto.s).1;
     }
 
-pub returns : goal.returns
-returns c =
+pub returns-clause-answer : goal.returns-clause-answer
+returns-clause-answer c =
     let a = c.args in
     let p = a.scratch.now.category in
     let vs = c.in_ok-matrix.ensures in

@@ -5,7 +5,7 @@ use borrow.Author.Tests.{tests}
 use Rattle.std.proofs.lemmas.Iterator.{YieldsList-from_slice}
 use Rattle.std.proofs.lemmas.Iterator.Search.{position_from_yields_List}
 use Rattle.store.specs.Stored.{slot_of, is_free}
-use Rattle.store.specs.Slots.{slot_in}
+use Rattle.store.specs.InnerSlots.{slot_in}
 use Rattle.store.proofs.PlaceLaws.{place_first}
 use Rattle.store.proofs.slots.StoreImage.find_free.Goals as goal
 
