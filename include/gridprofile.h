@@ -184,26 +184,26 @@ uint8_t gridprofile_unpack_exponents(const uint8_t *packed, size_t packed_len, u
 /* Draws the matrix V, GRIDPROFILE_MATRIX_VALUES values row by row, from a block of
  * GRIDPROFILE_MATRIX_BLOCK_BYTES: its 7-bit fields in order, 127 dropped. Refuses with 1 where
  * either length is another, then with 2 where the block yields too few.
- * Stack: 4096 bytes. */
+ * Stack: 4160 bytes. */
 uint8_t gridprofile_sample_matrix(const uint8_t *block, size_t block_len, uint8_t *out,
                                   size_t out_len);
 
 /* Draws GRIDPROFILE_PLACES exponents from a block of GRIDPROFILE_EXPONENTS_BLOCK_BYTES: its 3-bit
  * fields in order, 7 dropped. Refuses as gridprofile_sample_matrix does.
- * Stack: 448 bytes. */
+ * Stack: 512 bytes. */
 uint8_t gridprofile_sample_exponents(const uint8_t *block, size_t block_len, uint8_t *out,
                                      size_t out_len);
 
 /* Draws GRIDPROFILE_PLACES mask values from a block of GRIDPROFILE_MASK_VALUES_BLOCK_BYTES: its
  * 7-bit fields in order, 127 dropped. Refuses as gridprofile_sample_matrix does.
- * Stack: 448 bytes. */
+ * Stack: 512 bytes. */
 uint8_t gridprofile_sample_mask_values(const uint8_t *block, size_t block_len, uint8_t *out,
                                        size_t out_len);
 
 /* Draws GRIDPROFILE_ROUNDS first challenges, 1 to 126, from a block of
  * GRIDPROFILE_FIRST_CHALLENGES_BLOCK_BYTES: its 7-bit fields in order, 126 and 127 dropped, each
  * kept one plus 1. Refuses as gridprofile_sample_matrix does.
- * Stack: 704 bytes. */
+ * Stack: 768 bytes. */
 uint8_t gridprofile_sample_first_challenges(const uint8_t *block, size_t block_len, uint8_t *out,
                                             size_t out_len);
 

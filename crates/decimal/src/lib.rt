@@ -46,7 +46,9 @@ fn with_digit(n: u32, b: u8) -> u32
     requires { 48 ≤ b }
     ensures { result ≡ min largest (n * 10 + (b - 48)) }
 {
-    n.saturating_mul(10).saturating_add(u32::from(b - b'0'))
+    // b'0' comes off last: only then does the compiled loop branch at the largest number and not wait for it each time.
+    let longer = u64::from(n) * 10 + u64::from(b) - u64::from(b'0');
+    u32::try_from(longer).unwrap_or(u32::MAX)
 }
 
 // The number that stands at place `at`; 0 where no digit stands there. From a place past the end nothing is read.

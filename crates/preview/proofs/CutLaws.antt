@@ -1,13 +1,17 @@
 -- Laws of the input cut into lines, and of what its lines store. Assumes nothing.
 use mathlib.Core.Path.{◌≡◌, refl, ◌∙◌, sym, ap}
+use mathlib.Core.Bool.{Bool, true, false, cond}
 use mathlib.Core.List.{List, [], ◌∷◌, ◌++◌}
-use Prim.Native.Nat.{ℕ, suc, ◌+◌, ◌-◌, ◌≤◌, ◌<◌}
+use Prim.Native.Nat.{ℕ, zero, suc, ◌+◌, ◌-◌, ◌≤◌, ◌<◌}
 use native.Mathlib.Numerals.{add-one}
 use native.Mathlib.Omega.{arith}
-use lib.Dec.{eqb}
+use lib.Dec.{eqb, ltb}
 use lib.ListN.{length, get_or, take, drop, length-drop, drop_of_length-le}
 use lib.Seq.{take-suc, drop-cons, get_or-drop}
-use borrow.Author.Tests.{eq-eqb, ne_eqb}
+use borrow.Author.Tests.{eq-eqb, ne_eqb, eqb-true, ltb-true, ltb-false}
+use Rattle.std.specs.Prelude.{Option, Some, None}
+use Rattle.std.specs.List.{position_or_len}
+use Rattle.std.proofs.lemmas.List.Sums.{fails_before_first, passes_at_first}
 use Rattle.outcome.specs.Answer.{pick}
 use Rattle.profile.specs.declared.Profile.{Profile}
 use Rattle.profile.specs.Rules.{Class}
@@ -64,6 +68,56 @@ module _ (input : List ℕ) (at i : ℕ) (passed : Passed input at i) where
   pub line_unfinished : length input ≤ i → cut (drop at input) ≡ []
   unfolding cut_after
   line_unfinished end = sym passed.left ∙ rw (drop_of_length-le input end)
+
+-- ---- its LF, as the library finds it
+
+-- how many bytes stand before the first LF, or all of them
+abbrev pub before : List ℕ → ℕ
+before bytes = position_or_len (λ b. eqb b line_feed) bytes
+
+-- the place of the first LF, where there is one
+abbrev pub feed : List ℕ → Option ℕ
+feed bytes = cond (ltb (before bytes) (length bytes)) (Some (before bytes)) None
+
+module _ (input : List ℕ) (at : ℕ) (h : at ≤ length input) where
+  passed_far : (n : ℕ) → n ≤ before (drop at input) → n ≤ length (drop at input) → Passed input at (at + n)
+  passed_far zero few room = let none : at + 0 ≡ at = omega arith in rw none (passed_none input at h)
+  passed_far (suc n) few room =
+      let next : at + suc n ≡ at + n + 1 = omega arith in
+      let none : eqb (get_or (drop at input) n 0) line_feed ≡ false =
+      fails_before_first (λ b. eqb b line_feed) (drop at input) n 0 (omega arith) in
+      let other : eqb (get_or input (at + n) 0) line_feed ≡ false = rw (get_or-drop at input n 0) at none in
+      rw next (passed_more input at (at + n) (passed_far n (omega arith) (omega arith)) (omega (arith, length-drop at input))
+      (λ e. absurd (cc (other, eq-eqb (get_or input (at + n) 0) line_feed e))))
+
+  found_at : before (drop at input) < length (drop at input) → LineAt input at (at + before (drop at input) + 1)
+  found_at l =
+      let n : ℕ = before (drop at input) in
+      let yes : eqb (get_or (drop at input) n 0) line_feed ≡ true =
+      passes_at_first (λ b. eqb b line_feed) (drop at input) 0 l in
+      line_found input at (at + n) (passed_far n (omega arith) (omega arith)) (omega (arith, length-drop at input))
+      (eqb-true _ _ (rw (get_or-drop at input n 0) at yes))
+
+  -- where an LF was found
+  pub line_at : (i : ℕ) → ◌≡◌ {A = Option ℕ} (Some i) (feed (drop at input)) → LineAt input at (at + i + 1)
+  line_at i e = by (ltb (before (drop at input)) (length (drop at input))) refl e
+    where
+      by : (t : Bool) → ltb (before (drop at input)) (length (drop at input)) ≡ t
+          → ◌≡◌ {A = Option ℕ} (Some i) (cond t (Some (before (drop at input))) None) → LineAt input at (at + i + 1)
+      by true l e = let same : i ≡ before (drop at input) = cc in rw same (found_at (ltb-true _ _ l))
+      by false l e = absurd cc
+
+  -- where none was
+  pub line_missing : ◌≡◌ {A = Option ℕ} None (feed (drop at input)) → cut (drop at input) ≡ []
+  line_missing e = by (ltb (before (drop at input)) (length (drop at input))) refl e
+    where
+      by : (t : Bool) → ltb (before (drop at input)) (length (drop at input)) ≡ t
+          → ◌≡◌ {A = Option ℕ} None (cond t (Some (before (drop at input))) None) → cut (drop at input) ≡ []
+      by true l e = absurd cc
+      by false l e =
+          let n : ℕ = length (drop at input) in
+          let far : n ≤ before (drop at input) = ltb-false (before (drop at input)) n l in
+          line_unfinished input at (at + n) (passed_far n far (omega arith)) (omega (arith, length-drop at input))
 
 -- ---- what the lines store
 

@@ -31,12 +31,8 @@ fn line_end(input: &[u8], start: usize) -> Option<usize>
     requires { start ≤ length input.now }
     ensures { LineFound input.now start result }
 {
-    for i in start..input.len() {
-        if input[i] == b'\n' {
-            return Some(i + 1);
-        }
-    }
-    None
+    let place = input[start..].iter().position(|b| *b == b'\n')?;
+    Some(start + place + 1)
 }
 
 // Stores a valid profile as a device of its own country, class and hertz does, under the classes of a table. What is

@@ -3,12 +3,13 @@
 use mathlib.Core.Path.{◌≡◌, ◌∙◌, sym, ap}
 use mathlib.Core.Bool.{true, false}
 use mathlib.Core.List.{List, [], ◌∷◌, ◌++◌, append_assoc, append-nil}
-use Prim.Native.Nat.{ℕ, ◌+◌, ◌*◌, ◌/◌, ◌<◌, ◌≤◌, min}
+use Prim.Native.Nat.{ℕ, ◌+◌, ◌-◌, ◌*◌, ◌/◌, ◌%◌, ◌<◌, ◌≤◌, min}
+use native.Mathlib.Nat.{add-mod_left, mod-add-div, mod-eq_of_lt}
 use native.Mathlib.Omega.{arith}
 use borrow.Author.Tests.{le-leb, lt-leb}
 use lib.Dec.{leb}
-use lib.ListN.{length, take, length-append}
-use lib.Seq.{length-take-le, take-append-le, take-take, take_all}
+use lib.ListN.{length, take, drop, length-append}
+use lib.Seq.{length-take-le, take-append-le, take-take, take_all, drop-append-add}
 use Rattle.packing.specs.Packing.{number, digits, unpack}
 use Rattle.packing.proofs.Below.{Below}
 use Rattle.sampling.specs.Sampling.{fields, keep, yield, sample, enough}
@@ -32,6 +33,25 @@ yield_whole : (w m d : ℕ) (group later : List ℕ) → Below 256 (group ++ lat
 unfolding yield
 yield_whole w m d group later b pos full =
     rw (fields_group w group later b pos full) (keep_append m d (fields w group) (fields w later))
+
+-- what stands behind the whole groups of a block
+abbrev pub tail_of : ℕ → List ℕ → List ℕ
+tail_of w bytes = drop (length bytes - length bytes % w) bytes
+
+-- a group in front changes nothing of it
+pub tail_later : (w : ℕ) (group later : List ℕ) → length group ≡ w → tail_of w (group ++ later) ≡ tail_of w later
+tail_later w group later full =
+    let n : ℕ = length later in
+    let within : n % w ≤ n = omega (arith, mod-add-div n w) in
+    let same : length (group ++ later) - length (group ++ later) % w ≡ length group + (n - n % w) =
+    rw (length-append group later, full, add-mod_left w n) (omega arith) in
+    rw same (drop-append-add group later (n - n % w))
+
+-- where no group is left, the tail is
+pub tail_left : (w : ℕ) (rest tail : List ℕ) → length rest < w → tail_of w rest ≡ tail → rest ≡ tail
+tail_left w rest tail few e =
+    let none : length rest - length rest % w ≡ 0 = rw (mod-eq_of_lt few) (omega arith) in
+    rw none at e
 
 yield_group : (w m d : ℕ) (group later : List ℕ) → Below 256 (group ++ later) → 0 < w →
     length group ≡ min w (length (group ++ later)) → yield w m d (group ++ later) ≡ yield w m d group ++ yield w m d later

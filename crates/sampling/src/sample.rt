@@ -1,5 +1,5 @@
 // Draws: the fields of a block that are below a limit are kept, in scratch, until there are enough.
-ghost use Rattle.std.specs.Prelude.{◌≡◌, [], ◌∷◌, ◌++◌, ◌+◌, ◌*◌, ◌/◌, ◌^◌, ◌<◌, ◌≤◌, length, take};
+ghost use Rattle.std.specs.Prelude.{◌≡◌, [], ◌∷◌, ◌++◌, ◌+◌, ◌-◌, ◌*◌, ◌/◌, ◌%◌, ◌^◌, ◌<◌, ◌≤◌, length, take, drop};
 ghost use Rattle.packing.specs.Packing.{digits};
 ghost use Rattle.sampling.specs.Sampling.{keep, yield};
 ghost use Rattle.sampling.specs.InnerScratch.{Room, Sampled};
@@ -49,22 +49,29 @@ fn keep_bytes(scratch: &mut [u8], got: usize, bytes: &[u8], x: usize, w: usize, 
     keep_some(scratch, got, v, w, 8 * x / w, d)
 }
 
-// Keeps of a group: `width` bytes, which are eight fields, or at the block's end fewer. The widths in use are named, so
-// that each has a loop with its constants.
+// Keeps of a group: `width` bytes, which are eight fields. The widths in use are named, so that each has a loop with its
+// constants.
 fn keep_group(scratch: &mut [u8], got: usize, group: &[u8], d: Draw) -> usize
-    requires { (got + 8 ≤ length scratch.old) × (length group.now ≤ d.width) }
+    requires { (got + 8 ≤ length scratch.old) × (length group.now ≡ d.width) }
     ensures { (result ≤ got + 8)
         × (take result scratch.new ≡ take got scratch.old ++ yield d.width d.limit d.added group.now) }
 {
-    let x = group.len();
-    let w = d.width;
-    if x == 7 && w == 7 {
-        return keep_bytes(scratch, got, group, 7, 7, d);
+    match d.width {
+        7 => keep_bytes(scratch, got, group, 7, 7, d),
+        3 => keep_bytes(scratch, got, group, 3, 3, d),
+        w => keep_bytes(scratch, got, group, w, w, d),
     }
-    if x == 3 && w == 3 {
-        return keep_bytes(scratch, got, group, 3, 3, d);
-    }
-    keep_bytes(scratch, got, group, x, w, d)
+}
+
+// Keeps of the bytes behind the whole groups of a block, which are fewer than a group.
+fn keep_tail(scratch: &mut [u8], got: usize, block: &[u8], d: Draw) -> usize
+    requires { got + 8 ≤ length scratch.old }
+    ensures { (result ≤ got + 8)
+        × (take result scratch.new ≡ take got scratch.old ++ yield d.width d.limit d.added
+        (drop (length block.now - length block.now % d.width) block.now)) }
+{
+    let x = block.len() % d.width;
+    keep_bytes(scratch, got, &block[block.len() - x..], x, d.width, d)
 }
 
 // Makes a draw. Returns how many scratch has: `count` or more, at most 7 more, exactly where the block yields enough.
@@ -73,11 +80,14 @@ pub fn sample(scratch: &mut [u8], block: &[u8], d: Draw) -> usize
     ensures { Sampled d.width d.limit d.added d.count block.now result scratch.new }
 {
     let mut got = 0;
-    for group in block.chunks(d.width) {
+    for group in block.chunks_exact(d.width) {
         if d.count <= got {
             return got;
         }
         got = keep_group(scratch, got, group, d);
     }
-    got
+    if d.count <= got {
+        return got;
+    }
+    keep_tail(scratch, got, block, d)
 }

@@ -31,7 +31,8 @@ fn settle(positions: &mut [u8], j: usize, r: usize) -> usize
 {
     let m = j + 1;
     if r < 65536 / m * m {
-        positions.swap(j, r % m);
+        // The partner first: it is never above, and `swap` looks first whether its first place is below the second.
+        positions.swap(r % m, j);
         return j - 1;
     }
     j
